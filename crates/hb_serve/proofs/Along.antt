@@ -53,7 +53,7 @@ module _ {N M : Type 0} (f : N → M) (of : List Note → N → List Entry → T
   }
   stood_for ends.Stopped trace s = (s.0, f s.1, gives s.0 s.1 trace s.2, s.3)
   stood_for ends.WorldFault trace s = (s.0, f s.1, gives s.0 s.1 trace s.2, s.3)
-  stood_for ends.TurnsSpent trace s = (s.0, f s.1, gives s.0 s.1 trace s.2, s.3)
+  stood_for ends.TurnsSpent trace s = (s.0, f s.1, gives s.0 s.1 trace s.2, s.3, s.4)
 
   over : (words : ServeWords) (end : ServeEnd) (trace : List Entry) → IsOver of shown_in words end trace
       → IsOver stands shown words end trace

@@ -1,5 +1,5 @@
 -- What the event loop says of a run, and what follows of its trace.
-use Rattle.std.proofs.Common.{◌≡◌, inr, List, [], ◌++◌, Option, Some, None, ap, sym, ◌∙◌, subst}
+use Rattle.std.proofs.Common.{◌≡◌, true, false, inr, List, [], ◌++◌, Option, Some, None, ap, sym, ◌∙◌, subst}
 use Rattle.std.proofs.lemmas.List.{append-nil}
 use Rattle.hb_audit.specs.Tells.{Answering}
 use Rattle.hb_base.specs.declared.cause.Cause.{Cause}
@@ -16,6 +16,7 @@ use Rattle.hb_turns.specs.declared.served.Served.{Served}
 use Rattle.hb_turns.specs.declared.served.ServeEnd.{ServeEnd}
 use Rattle.hb_turns.specs.declared.served.ServeEnd.TheVariants as ends
 use Rattle.hb_turns.specs.declared.words.ServeWords.{ServeWords as LoopWords}
+use Rattle.hb_whole.proofs.Free.{free}
 use Rattle.hb_whole.proofs.Settling.{settled_in}
 use Rattle.hb_whole.specs.Queue.{told, waiting_in}
 use Rattle.hb_whole.specs.Sight.{shown_of}
@@ -30,25 +31,37 @@ use Rattle.hb_laws.proofs.Runs.{run_is_lawful}
 use Rattle.hb_serve.proofs.Along.{served_along}
 use Rattle.hb_serve.proofs.Asking.{StandsIn}
 
+-- the run of a proxy, which goes on
+abbrev lawful_run : (taken : List Note) (p : Proxy) (trace : List Entry) → whole.Stands taken p trace → p.ends_for ≡ None
+    → GoesOn (whole.config_of p) trace
+lawful_run taken p trace s going = record {
+  lawful = run_is_lawful (whole.config_of p) s.machine s.points trace s.run s.trace_is;
+  going = sym (over_is (whole.config_of p) s.machine.control (control_of s.points)
+      (control_runs (whole.config_of p) s.machine s.points s.run))
+      ∙ subst (λ (o : Option Cause). whole.EndsBy o s.machine) going s.ends;
+}
+
 -- what a proxy stands for whose run goes on
 goes_on : (g : NodeConfig) (taken : List Note) (p : Proxy) (trace : List Entry) → StandsAs g taken p trace → p.ends_for ≡ None
     → GoesOn g trace
 goes_on g taken p trace stands going =
+    subst (λ (h : NodeConfig). GoesOn h trace) stands.1 (lawful_run taken p trace stands.0 going)
+
+-- and one of which no act is due
+at_rest : (g : NodeConfig) (taken : List Note) (p : Proxy) (trace : List Entry) → StandsAs g taken p trace → p.ends_for ≡ None
+    → (shown_of p).idle ≡ true → AreLawful g ends.TurnsSpent trace
+at_rest g taken p trace stands going idle =
     let s = stands.0 in
-    subst (λ (h : NodeConfig). GoesOn h trace) stands.1
-    (record {
-      lawful = run_is_lawful (whole.config_of p) s.machine s.points trace s.run s.trace_is;
-      going = sym (over_is (whole.config_of p) s.machine.control (control_of s.points)
-          (control_runs (whole.config_of p) s.machine s.points s.run))
-          ∙ subst (λ (o : Option Cause). whole.EndsBy o s.machine) going s.ends;
-    })
+    let all = free taken p trace s (going, idle) in
+    subst (λ (h : NodeConfig). AreLawful h ends.TurnsSpent trace) stands.1
+    (lawful_run taken p trace s going, record { control = all.control; links = all.links; plain = all.plain; gates = all.gates false })
 
 are_lawful : (g : NodeConfig) (end : ServeEnd) (trace : List Entry) → turns.IsStoodFor (StandsAs g) shown_of end trace
     → AreLawful g end trace
 are_lawful g ends.NoMemory trace s = (s.front, s.last, s.trace_is, goes_on g s.notes s.node s.front s.stands_for s.going)
 are_lawful g ends.Stopped trace s = goes_on g s.0 s.1 trace s.2 s.3
 are_lawful g ends.WorldFault trace s = goes_on g s.0 s.1 trace s.2 s.3
-are_lawful g ends.TurnsSpent trace s = goes_on g s.0 s.1 trace s.2 s.3
+are_lawful g ends.TurnsSpent trace s = at_rest g s.0 s.1 trace s.2 s.3 s.4
 
 -- where none waits, those that were taken are all
 all_taken : (taken : List Note) (waits : Option (List Note)) (points : List Point) → whole.AreNotes taken waits points

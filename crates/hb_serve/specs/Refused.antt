@@ -1,11 +1,18 @@
--- Audits behind a run, right and wrong.
-use Rattle.std.specs.Prelude.{◌≡◌, false, List, [], ◌∷◌, Option, Some, None}
+-- Audits behind a run, right and wrong, and machines that aren't at rest.
+use Rattle.std.specs.Prelude.{◌≡◌, ℕ, false, List, [], ◌∷◌, Option, Some, None}
 use Rattle.hb_audit.specs.Refused.{any_answer, kept_alone}
+use Rattle.hb_base.specs.declared.cause.Cause.{Cause}
 use Rattle.hb_base.specs.declared.note.Note.{Note}
+use Rattle.hb_conn.specs.Observed.{IsLookedAt}
+use Rattle.hb_inbound.specs.Inbound as inbound
+use Rattle.hb_inbound.specs.Tunnel.{over}
+use Rattle.hb_model.specs.Discovery as discovery
+use Rattle.hb_model.specs.Runs.{IsEmptyHanded}
+use Rattle.hb_proxy.specs.Machine.{Machine}
 use Rattle.hb_turns.specs.declared.served.Served.{Served}
 use Rattle.hb_turns.specs.declared.served.ServeEnd.TheVariants as ends
 use Rattle.hb_world.specs.declared.entry.Entry.{Entry}
-use Rattle.hb_serve.specs.Served.{IsServed, AreTold, heard_of}
+use Rattle.hb_serve.specs.Served.{IsServed, IsAtRest, AreTold, heard_of}
 use Rattle.hb_serve.specs.declared.words.ServeWords.{ServeWords}
 
 module _ (words : ServeWords) (served : Served) (keep : Option (List Note)) (trace : List Entry) where
@@ -49,3 +56,22 @@ NoRunLeavesOneMore = (words : ServeWords) (served : Served) (keep : Option (List
 abbrev pub NoRunDropsKeepers : Type 0
 NoRunDropsKeepers = (words : ServeWords) (served : Served) (keep : Option (List Note)) (trace : List Entry)
     → KeeperIsGone words served keep trace
+
+-- A MACHINE THAT ISN'T AT REST
+
+-- a whole frame is held on the control plane's connection that isn't looked at, or DATA that isn't used, so no response that it ends is
+-- applied; or a whole frame on an inbound link
+abbrev pub RestsUnheard : Type 0
+RestsUnheard = (x : Machine) (l : ℕ) → (x.control.links l).phase ≡ discovery.live → (IsLookedAt (x.control.links l).conn → ⊥)
+    → IsAtRest x → ⊥
+
+abbrev pub RestsUnapplied : Type 0
+RestsUnapplied = (x : Machine) (l : ℕ) → (x.control.links l).phase ≡ discovery.live
+    → (IsEmptyHanded (x.control.links l) → ⊥) → IsAtRest x → ⊥
+
+abbrev pub RestsUnlooked : Type 0
+RestsUnlooked = (x : Machine) (l : ℕ) → (x.inbound l).phase ≡ inbound.serving → (IsLookedAt (x.inbound l).conn → ⊥) → IsAtRest x → ⊥
+
+-- a tunnel that ended has an upstream that isn't closed
+abbrev pub RestsUnclosed : Type 0
+RestsUnclosed = (x : Machine) (l s : ℕ) (why : Cause) → ((x.inbound l).tunnels s).stage ≡ over why → IsAtRest x → ⊥

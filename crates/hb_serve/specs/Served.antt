@@ -4,7 +4,12 @@ use Rattle.std.specs.Option.{option_to_list}
 use Rattle.hb_audit.specs.Tells as audits
 use Rattle.hb_audit.specs.Tells.{Answering}
 use Rattle.hb_base.specs.declared.note.Note.{Note}
+use Rattle.hb_captured.specs.Calm as captured
+use Rattle.hb_inbound.specs.Calm as inbound
+use Rattle.hb_model.specs.Runs as model
+use Rattle.hb_proxy.specs.Machine.{Machine}
 use Rattle.hb_proxy.specs.Notes.{notes as notes_of}
+use Rattle.hb_proxy.specs.Runs.{GatesLet}
 use Rattle.hb_held.specs.declared.doors.OwnDoors.{OwnDoors}
 use Rattle.hb_model.specs.declared.config.NodeConfig.{NodeConfig}
 use Rattle.hb_proxy.specs.Settled.{SettledLaw}
@@ -38,8 +43,18 @@ loop_words doors turns ticks = record {
 abbrev pub words_of : ServeWords → LoopWords
 words_of w = loop_words w.config.doors w.turns w.ticks
 
--- a run that goes on left these entries; where memory lacked, all but at most the last
+-- nothing more happens by itself on any link, and no call is due on one: all that came is looked at, each response is applied, and what ended
+-- for that is closed
+pub record IsAtRest (x : Machine) : Type 0 where
+  pub control : model.IsQuiet x.control
+  pub links : (l : ℕ) → inbound.IsQuiet (x.inbound l)
+  pub plain : (l : ℕ) → captured.IsQuiet (x.plain l)
+  pub gates : GatesLet false x
+
+-- a run that goes on left these entries; where its turns are spent it is at rest behind them; where memory lacked it left all but at most the
+-- last
 abbrev pub AreLawful : NodeConfig → ServeEnd → List Entry → Type 0
+AreLawful g ends.TurnsSpent trace = (on : GoesOn g trace) × IsAtRest on.lawful.machine
 AreLawful g ends.NoMemory trace = (front : List Entry) × (last : Option Entry) × (trace ≡ front ++ option_to_list last) × GoesOn g front
 AreLawful g _ trace = GoesOn g trace
 

@@ -1,5 +1,5 @@
 -- The end of a run.
-use Rattle.std.proofs.Common.{◌≡◌, ℕ, Bool, true, false, List, [], ◌∷◌, ◌++◌, Option, Some, None, Result, Ok, Err, IfSome, IsSome, OnOk, is_err, refl, sym, ◌∙◌, subst}
+use Rattle.std.proofs.Common.{◌≡◌, ℕ, Bool, true, false, List, [], ◌∷◌, ◌++◌, Option, Some, None, Result, Ok, Err, IfSome, IfOk, IsSome, OnOk, is_err, refl, sym, ◌∙◌, subst}
 use Rattle.std.specs.List.{All}
 use Rattle.hb_base.specs.declared.cause.Cause.{Cause}
 use Rattle.hb_base.specs.declared.note.Note.{Note}
@@ -118,16 +118,20 @@ module _ {N : Type 0} (stands : List Note → N → List Entry → Type 0) (show
   notes_held (Err why) mid new told so none = tt
 
   stood : (end : ServeEnd) (notes : List Note) (n : N) (trace : List Entry) → stands notes n trace → (shown n).ends_for ≡ None
-      → IsStoodFor stands shown end trace
-  stood ends.Stopped notes n trace had going = (notes, n, had, going)
-  stood ends.WorldFault notes n trace had going = (notes, n, had, going)
-  stood ends.TurnsSpent notes n trace had going = (notes, n, had, going)
-  stood ends.NoMemory notes n trace had going = stood_whole stands shown notes n trace had going
+      → (end ≡ ends.TurnsSpent → (shown n).idle ≡ true) → IsStoodFor stands shown end trace
+  stood ends.Stopped notes n trace had going rests = (notes, n, had, going)
+  stood ends.WorldFault notes n trace had going rests = (notes, n, had, going)
+  stood ends.TurnsSpent notes n trace had going rests = (notes, n, had, going, rests refl)
+  stood ends.NoMemory notes n trace had going rests = stood_whole stands shown notes n trace had going
 
-  stood_or : {E : Type 0} (r : Result ServeEnd E) (run : Run N) (trace : List Entry) → Left stands shown r run trace
+  -- no act is due where the turns are spent
+  abbrev pub RestsSpent : {E : Type 0} → Result ServeEnd E → Run N → Type 0
+  RestsSpent r run = IfOk r (λ end. end ≡ ends.TurnsSpent → (shown run.node).idle ≡ true)
+
+  stood_or : {E : Type 0} (r : Result ServeEnd E) (run : Run N) (trace : List Entry) → Left stands shown r run trace → RestsSpent r run
       → IsStoodFor stands shown (end_of r) trace
-  stood_or (Ok end) run trace s = stood end s.matches.notes run.node trace s.matches.node s.going
-  stood_or (Err why) run trace lacks = lacks.1
+  stood_or (Ok end) run trace s rests = stood end s.matches.notes run.node trace s.matches.node s.going rests
+  stood_or (Err why) run trace lacks rests = lacks.1
 
   -- where memory lacked too
   pub left_obeys : {A E : Type 0} (r : Result A E) (run : Run N) (told : Option (List Entry)) → IfSome told (Left stands shown r run)
@@ -171,16 +175,16 @@ module _ {N : Type 0} (stands : List Note → N → List Entry → Type 0) (show
   pub is_served : {A E F : Type 0} (words : ServeWords) (r : Result ServeEnd E) (b : Result A F) (run new : Run N)
       (before behind : Option (List Entry)) → IfSome before (Left stands shown r run) → IfSome before (Finishes words (end_of r))
       → IfSome before LooksLaw → IfSome before (LeadLaw stands shown) → Closes (cause_at (end_of r)) before behind → IfSome behind (Obeys stands shown new.records)
-      → ((l : ℕ) → (kept new.records.links).links l ≡ None) → OnOk r ((shown run.node).none_closes ≡ true)
+      → ((l : ℕ) → (kept new.records.links).links l ≡ None) → OnOk r ((shown run.node).none_closes ≡ true) → RestsSpent r run
       → OnOk b ((shown run.node).none_closes ≡ true → IfSome before (Stands stands shown run)
       → IfSome behind (HasAllNotes stands shown new))
       → IfSome behind (IsServed stands shown words
       (outcome (end_of r) new.records new.taken.sums (is_err b)) (leaves new.taken.keep new.node))
-  is_served words r b run new None behind left_so finishes looks leads closes obeys none none_closes notes =
+  is_served words r b run new None behind left_so finishes looks leads closes obeys none none_closes rests notes =
       subst (λ (o : Option (List Entry)). IfSome o (IsServed stands shown words
       (outcome (end_of r) new.records new.taken.sums (is_err b)) (leaves new.taken.keep new.node)))
       (sym closes.grows) tt
-  is_served words r b run new (Some trace) behind left_so finishes looks leads closes obeys none none_closes notes =
+  is_served words r b run new (Some trace) behind left_so finishes looks leads closes obeys none none_closes rests notes =
       by behind closes.grows obeys notes
     where
       by : (told : Option (List Entry)) → told ≡ Some (trace ++ closes.more) → IfSome told (Obeys stands shown new.records)
@@ -198,7 +202,7 @@ module _ {N : Type 0} (stands : List Note → N → List Entry → Type 0) (show
             (closes_lead stands shown (cause_at (end_of r)) trace closes.more closes.closes leads);
         closed = λ l. none_lives l full (sym (o.links l) ∙ none l);
         over = subst (λ (es : List Entry). IsOver stands shown words (end_of r) es) (let same : full ≡ trace ++ closes.more = cc in sym same)
-            (over words (end_of r) closes.more trace finishes (stood_or r run trace left_so) closes.closes);
+            (over words (end_of r) closes.more trace finishes (stood_or r run trace left_so rests) closes.closes);
         links_are = o.births_are;
         wanting_is = o.wanting_is;
         revoked_are = o.revoked_are;

@@ -113,6 +113,11 @@ abbrev pub is_fault_by : Option ServeEnd → Bool
 is_fault_by None = false
 is_fault_by (Some end) = is_fault end
 
+-- a turn that ends the run spends none of those that are left
+abbrev pub is_spent_by : {E : Type 0} → Result (Option ServeEnd) E → Bool
+is_spent_by (Ok (Some ends.TurnsSpent)) = true
+is_spent_by _ = false
+
 abbrev pub is_fault_of_turn : {E : Type 0} → Result (Option ServeEnd) E → Bool
 is_fault_of_turn (Ok end) = is_fault_by end
 is_fault_of_turn (Err why) = false

@@ -154,3 +154,9 @@ module _ {N : Type 0} (stands : List Note → N → List Entry → Type 0) (show
       → stands notes m (listen_at true (Inbound, at) ∷ e.Dialled 1 to why ∷ e.Balked (way.Finish 1) ∷ waits_stop ∷ [])
       → stands more k (good_run at to why) → (shown k).noted ≡ []
       → IsServed stands shown (asks_doors (Some at) None) (stopped (with_sums 1 more)) (leaves (Some more) k) (good_run at to why)
+
+-- each node that stands for what was done has an act due, and the turns are spent
+abbrev pub SpendsWithWork : {N : Type 0} → (List Note → N → List Entry → Type 0) → (N → Shown) → Type 0
+SpendsWithWork {N} stands shown = ((notes : List Note) (n : N) (trace : List Entry) → stands notes n trace → (shown n).idle ≡ false)
+    → (words : ServeWords) (served : Served) (left : Leaves N) (trace : List Entry) → served.end ≡ ends.TurnsSpent
+    → IsServed stands shown words served left trace → ⊥

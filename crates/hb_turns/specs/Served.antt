@@ -24,9 +24,12 @@ use Rattle.hb_turns.specs.declared.served.ServeEnd.TheVariants as ends
 use Rattle.hb_turns.specs.declared.served.Totals.{Totals}
 use Rattle.hb_turns.specs.declared.words.ServeWords.{ServeWords}
 
--- a node whose run goes on stands for the trace; where memory lacked, for it or for all but its last entry
+-- a node whose run goes on stands for the trace; where the turns are spent no act is due; where memory lacked it stands for the trace or
+-- for all but its last entry
 abbrev pub IsStoodFor : {N : Type 0} → (List Note → N → List Entry → Type 0) → (N → Shown) → ServeEnd → List Entry → Type 0
 IsStoodFor stands shown ends.NoMemory trace = StoodLast stands shown trace
+IsStoodFor {N} stands shown ends.TurnsSpent trace =
+    (notes : List Note) × (n : N) × stands notes n trace × ((shown n).ends_for ≡ None) × ((shown n).idle ≡ true)
 IsStoodFor {N} stands shown _ trace = (notes : List Note) × (n : N) × stands notes n trace × ((shown n).ends_for ≡ None)
 
 -- The run ended so with the first of the entries, for which a node stands (where memory lacked, for them or for all but the last). The

@@ -7,9 +7,14 @@ ghost use Rattle.hb_turns.specs.RefusedLeads.{ReadsAnother, TriesAnother, Accept
 ghost use Rattle.hb_turns.specs.RefusedLooks.{ReadsOn, ReadsBetween, ReadsBoth, AcceptsOn, GoodTraceIsLooked, GlanceIsSettled};
 ghost use Rattle.hb_turns.specs.RefusedRuns.{StopsUnasked, LeavesOpen, ClosesForLack, GoesOnBehind, WaitsPastTurns, GivesUp, GlancesOn};
 ghost use Rattle.hb_turns.specs.RefusedRuns.{TicksOnceMore, ListensNowhere, ListensUnasked, ListensInAnotherOrder, LosesNotes, ForgetsNode, GoodRunIsServed};
-ghost use Rattle.hb_turns.specs.RefusedRuns.{LacksTwice, LacksUnallowed, LackIsServed};
+ghost use Rattle.hb_turns.specs.RefusedRuns.{LacksTwice, LacksUnallowed, LackIsServed, SpendsWithWork};
 
 use crate::node::Node;
+
+/// No run spends its turns while an act is due.
+pub fn work_left_at_spent_turns_is_refused<N: Node>()
+    ensures { SpendsWithWork N.stands N.shown }
+{}
 
 /// No trace obeys it in which a wait stands while something is left to be done.
 pub fn hurried_waits_are_refused<N: Node>()

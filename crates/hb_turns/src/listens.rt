@@ -1,9 +1,9 @@
 //! Listens at the doors that are given, before anything else.
 
-ghost use Rattle.std.specs.Prelude.{◌≡◌, ◌++◌, [], Some, List, IfSome};
+ghost use Rattle.std.specs.Prelude.{◌≡◌, ◌++◌, [], Some, List, IfSome, false};
 ghost use Rattle.hb_world.specs.declared.entry.Entry.{Entry};
 ghost use Rattle.hb_turns.specs.Faults.{CountsWhole};
-ghost use Rattle.hb_turns.specs.Ends.{is_fault_of_turn};
+ghost use Rattle.hb_turns.specs.Ends.{is_fault_of_turn, is_spent_by};
 ghost use Rattle.hb_turns.specs.Listens.{DoorAt, given, given_at};
 ghost use Rattle.hb_turns.specs.Reckons.{Begins, Begun};
 
@@ -26,6 +26,7 @@ fn listen_at<W: World, N: Node>(
     ensures links { run.new.records.links ≡ run.old.records.links }
     ensures node { run.new.node ≡ run.old.node }
     ensures faults { CountsWhole (W.seen world.old) (W.seen world.new) (is_fault_of_turn result) }
+    ensures unspent { is_spent_by result ≡ false }
 {
     let Some(at) = at else {
         return Ok(None);
@@ -54,6 +55,7 @@ pub(crate) fn listen<W: World, N: Node>(
     ensures links { run.new.records.links ≡ run.old.records.links }
     ensures node { run.new.node ≡ run.old.node }
     ensures faults { CountsWhole (W.seen world.old) (W.seen world.new) (is_fault_of_turn result) }
+    ensures unspent { is_spent_by result ≡ false }
 {
     match listen_at(run, world, Door::Inbound, doors.inbound)? {
         Some(end) => return Ok(Some(end)),

@@ -10,6 +10,7 @@ ghost use Rattle.hb_turns.specs.Reckons.{Begins, Finishes};
 ghost use Rattle.hb_turns.specs.Served.{IsServed, IsFresh, IsFreshNode, leaves};
 ghost use Rattle.hb_turns.specs.Stands.{Left};
 ghost use Rattle.hb_turns.specs.Totals.{sums_of};
+ghost use Rattle.hb_turns.specs.declared.served.ServeEnd.TheVariants.{TurnsSpent};
 
 use crate::ending::end_run;
 use crate::keep::Keep;
@@ -36,6 +37,7 @@ fn run_on<W: World, N: Node>(
     ensures keeps { IfSome (W.trace world.old) (Begins N.stands N.shown run.old [])
         → IfSome (W.trace world.new) (Left N.stands N.shown result run.new) }
     ensures closes { OnOk result ((N.shown run.old.node).none_closes ≡ true → (N.shown run.new.node).none_closes ≡ true) }
+    ensures rests { IfOk result (λ end. end ≡ TurnsSpent → (N.shown run.new.node).idle ≡ true) }
     ensures finishes { IfSome (W.trace world.old) (Begins N.stands N.shown run.old [])
         → IfSome (W.trace world.new) (Finishes words (end_of result)) }
     ensures looks { IfSome (W.trace world.old) (Begins N.stands N.shown run.old []) → IfSome (W.trace world.new) LooksLaw }

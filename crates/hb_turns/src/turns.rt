@@ -2,11 +2,12 @@
 
 ghost use Rattle.std.specs.Prelude.{◌≡◌, ◌≤◌, ℕ, ◌+◌, true, false, None, IfOk, IfSome, OnOk};
 ghost use Rattle.hb_turns.specs.Faults.{CountsWhole};
-ghost use Rattle.hb_turns.specs.Ends.{is_fault, is_fault_of_turn, end_of};
+ghost use Rattle.hb_turns.specs.Ends.{is_fault, is_fault_of_turn, is_spent_by, end_of};
 ghost use Rattle.hb_turns.specs.Leads.{LeadLaw, NotBehindLook};
 ghost use Rattle.hb_turns.specs.Looks.{Fits, Looks, Looked, LooksLaw};
 ghost use Rattle.hb_turns.specs.Reckons.{Paid, Reckons, Turned, Finishes};
 ghost use Rattle.hb_turns.specs.Stands.{Keeps, IsIdle, Stands};
+ghost use Rattle.hb_turns.specs.declared.served.ServeEnd.TheVariants.{TurnsSpent};
 ghost use Rattle.hb_turns.specs.declared.words.ServeWords.{ServeWords};
 ghost use Rattle.hb_turns.specs.Woken.{IsQuiet};
 
@@ -52,6 +53,7 @@ fn look_up<W: World, N: Node>(
     ensures looks { (n : ℕ) → n ≤ unseen.old → (m : ℕ) × (IfOk result (λ end. Fits m unseen.new run.new.records))
         × (IfSome (W.trace world.old) (Looks n) → IfSome (W.trace world.new) (Looked result m)) }
     ensures faults { CountsWhole (W.seen world.old) (W.seen world.new) (is_fault_of_turn result) }
+    ensures unspent { is_spent_by result ≡ false }
 {
     if !has_work(&run.records) {
         return Ok(None);
@@ -84,6 +86,7 @@ fn turn<W: World, N: Node>(
     ensures looks { (n : ℕ) → Fits n unseen.old run.old.records → (m : ℕ) × (IfOk result (λ end. Fits m unseen.new run.new.records))
         × (IfSome (W.trace world.old) (Looks n) → IfSome (W.trace world.new) (Looked result m)) }
     ensures faults { CountsWhole (W.seen world.old) (W.seen world.new) (is_fault_of_turn result) }
+    ensures unspent { is_spent_by result ≡ false }
 {
     if !has_work(&run.records) {
         *unseen = 0;
@@ -104,6 +107,7 @@ pub(crate) fn turns<W: World, N: Node>(
 ) -> Result<ServeEnd, NoMemory>
     ensures keeps { Keeps N.stands N.shown result run.old (W.trace world.old) run.new (W.trace world.new) }
     ensures closes { OnOk result ((N.shown run.new.node).none_closes ≡ true) }
+    ensures rests { IfOk result (λ end. end ≡ TurnsSpent → (N.shown run.new.node).idle ≡ true) }
     ensures finishes { (words : ServeWords) → words.turns ≡ most → IfSome (W.trace world.old) (Reckons words ticks 0 0)
         → IfSome (W.trace world.new) (Finishes words (end_of result)) }
     ensures looks { IfSome (W.trace world.old) (Looks 0) → IfSome (W.trace world.new) LooksLaw }

@@ -8,7 +8,7 @@ ghost use Rattle.hb_turns.specs.Looks.{Looks, Looked};
 ghost use Rattle.hb_turns.specs.Reckons.{Adds, Reckons, Turned, IsBehindTick, one_less, is_spent};
 ghost use Rattle.hb_turns.specs.Stands.{Keeps, Left, WatchedBy, IsIdle};
 ghost use Rattle.hb_turns.specs.Woken.{Wakes, IsQuiet, Ticked};
-ghost use Rattle.hb_turns.specs.Ends.{is_fault_of_turn};
+ghost use Rattle.hb_turns.specs.Ends.{is_fault_of_turn, is_spent_by};
 ghost use Rattle.hb_turns.specs.Shown.{Shown};
 ghost use Rattle.hb_turns.specs.declared.words.ServeWords.{ServeWords};
 
@@ -70,6 +70,7 @@ fn tick<W: World, N: Node>(
     ensures adds { Adds false 0 (W.trace world.old) (W.trace world.new) }
     ensures stays { StaysWhole (W.seen world.old) (W.seen world.new) }
     ensures stops { is_fault_of_turn result ≡ false }
+    ensures unspent { is_spent_by result ≡ false }
 {
     run.node.tick();
     if is_last(ticks) {
@@ -95,6 +96,7 @@ pub(crate) fn wait<W: World, N: Node>(
     ensures looks { (n : ℕ) → IfSome (W.trace world.old) (Looks n) → IfSome (W.trace world.new) (Looked result 0) }
     ensures leads { IfSome (W.trace world.old) (LeadLaw N.stands N.shown) → IfSome (W.trace world.new) (LeadLaw N.stands N.shown) }
     ensures faults { CountsWhole (W.seen world.old) (W.seen world.new) (is_fault_of_turn result) }
+    ensures unspent { is_spent_by result ≡ false }
 {
     match world.wait(ready) {
         Waited::Woke => {
@@ -133,6 +135,7 @@ pub(crate) fn glance<W: World, N: Node>(
     ensures looks { (n : ℕ) → IfSome (W.trace world.old) (Looks n) → IfSome (W.trace world.new) (Looked result 0) }
     ensures leads { IfSome (W.trace world.old) (LeadLaw N.stands N.shown) → IfSome (W.trace world.new) (LeadLaw N.stands N.shown) }
     ensures faults { CountsWhole (W.seen world.old) (W.seen world.new) (is_fault_of_turn result) }
+    ensures unspent { is_spent_by result ≡ false }
 {
     match world.glance(ready) {
         Glanced::Woke => {

@@ -20,7 +20,7 @@ returns-clause-served g c = λ none had.
     (c.run_on.ensures.leads had) closes
     (c.end_run-noted.ensures.obeys (left_obeys g.N.Node.stands g.N.Node.shown c.run_on.result c.run_on.new.run _ left_so))
     c.end_run-noted.ensures.none
-    (on_ok c.run_on.result _ _ (λ so. so none) c.run_on.ensures.closes) c.end_run-noted.ensures.noted in
+    (on_ok c.run_on.result _ _ (λ so. so none) c.run_on.ensures.closes) c.run_on.ensures.rests c.end_run-noted.ensures.noted in
     subst (λ (b : Bool). IfSome (g.W.World.trace c.end_run-noted.new.world) (IsServed g.N.Node.stands g.N.Node.shown c.args.words
     (outcome c.end_of-end.result new.records new.taken.sums b) (leaves new.taken.keep new.node))) (sym c.is_err.ensures.value)
     (subst (λ (end : ServeEnd). IfSome (g.W.World.trace c.end_run-noted.new.world) (IsServed g.N.Node.stands g.N.Node.shown c.args.words

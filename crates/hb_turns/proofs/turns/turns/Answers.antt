@@ -105,3 +105,6 @@ returns-in-Some-clause-leads g c = λ stood none.
 
 pub returns-clause-leads : goal.returns-clause-leads
 returns-clause-leads g c = λ stood none. c.loop-turn.invariant.led stood none
+
+pub returns-clause-rests : goal.returns-clause-rests
+returns-clause-rests g c = λ spent. c.loop-turn.invariant.idle.idle
