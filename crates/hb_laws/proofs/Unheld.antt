@@ -60,7 +60,7 @@ unknown network node doors ip =
     ap (λ (es : List (List ℕ × Versioned AddressRecord)). option_and_then (λ e. cond (bytes_eq e.1.node node) (Some e) None)
     (least (filter (λ e. has_address network ip e.1) (filter_map named_workload es)))) (no_entries (slice_cmp nat_cmp))
 
-nobody_admitted : (network node : List ℕ) (doors : OwnDoors) (peer : Peer) (target : Target)
+pub nobody_admitted : (network node : List ℕ) (doors : OwnDoors) (peer : Peer) (target : Target)
     → judged (nothing_held network node doors) peer target ≡ Unknown
 nobody_admitted network node doors peer target =
     ap (λ (o : Option (List ℕ × Workload)). judged_at (nothing_held network node doors) o (record { peer = peer; target = target }))

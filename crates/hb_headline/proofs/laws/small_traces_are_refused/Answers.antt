@@ -1,0 +1,19 @@
+use Rattle.hb_headline.proofs.Refused.{sends_unfronted, tunnels_unfronted, invents_back, sends_early, invents_data, sends_unasked, dials_twice, dials_elsewhere, admits_elsewhere, admits_untold, admits_forged, sends_unborn, cuts_unadmitted}
+use Rattle.hb_headline.proofs.laws.small_traces_are_refused.Goals as goal
+
+pub returns : goal.returns
+returns c = record {
+  unfronted = sends_unfronted;
+  tunnel = tunnels_unfronted;
+  invents = invents_back;
+  early = sends_early;
+  invents_data = invents_data;
+  unasked = sends_unasked;
+  twice = dials_twice;
+  again = dials_elsewhere;
+  elsewhere = admits_elsewhere;
+  untold = admits_untold;
+  forged = admits_forged;
+  unborn = sends_unborn;
+  cut = cuts_unadmitted;
+}

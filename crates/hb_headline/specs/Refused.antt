@@ -1,0 +1,94 @@
+-- Small traces that don't meet the headline. Link 1 is accepted in them, and link 2 is its upstream, but where the control plane is
+-- dialled first.
+use Rattle.std.specs.Prelude.{◌≡◌, ◌≢◌, ℕ, List, [], ◌∷◌, ◌++◌}
+use Rattle.hb_base.specs.declared.door.Door.TheVariants as door
+use Rattle.hb_base.specs.declared.door.Why.TheVariants as whys
+use Rattle.hb_base.specs.declared.peer.Peer.{Peer}
+use Rattle.hb_base.specs.declared.target.Target.{Target}
+use Rattle.hb_frames.specs.RawFrame.{spelling}
+use Rattle.hb_held.specs.Held.{Resources}
+use Rattle.hb_model.specs.declared.config.NodeConfig.{NodeConfig}
+use Rattle.hb_table.specs.Judgement.{judged}
+use Rattle.hb_table.specs.declared.judgement.Judged.TheVariants.{Admitted}
+use Rattle.hb_world.specs.declared.entry.Entry.{Entry}
+use Rattle.hb_world.specs.declared.entry.Entry.TheVariants as e
+use Rattle.hb_headline.specs.Access.{Admits}
+use Rattle.hb_headline.specs.Headline.{Headline}
+use Rattle.hb_headline.specs.Relay.{data_with}
+
+abbrev pub NotMet : List Entry → Type 0
+NotMet trace = (g : NodeConfig) → Headline g trace → ⊥
+
+-- PREFIX: bytes go to the upstream of a plain link, and of a tunnel, on whose link no header came
+abbrev pub SendsUnfronted : Type 0
+SendsUnfronted = (to : Target) (byte : ℕ) (more : List ℕ)
+    → NotMet (e.Accepted 1 door.Plain ∷ e.Dialled 2 to (whys.Plain 1) ∷ e.Went 2 (byte ∷ more) ∷ [])
+
+abbrev pub TunnelsUnfronted : Type 0
+TunnelsUnfronted = (to : Target) (byte : ℕ) (more : List ℕ)
+    → NotMet (e.Accepted 1 door.Inbound ∷ e.Dialled 2 to (whys.Upstream 1 1) ∷ e.Went 2 (byte ∷ more) ∷ [])
+
+-- bytes go on a plain link that didn't come from its upstream
+abbrev pub InventsBack : Type 0
+InventsBack = (to : Target) (byte : ℕ) (more : List ℕ)
+    → NotMet (e.Accepted 1 door.Plain ∷ e.Dialled 2 to (whys.Plain 1) ∷ e.Went 1 (byte ∷ more) ∷ [])
+
+-- or that come from it only later
+abbrev pub SendsEarly : Type 0
+SendsEarly = (to : Target) (byte : ℕ) (more : List ℕ)
+    → NotMet (e.Accepted 1 door.Plain ∷ e.Dialled 2 to (whys.Plain 1) ∷ e.Went 1 (byte ∷ more) ∷ e.Came 2 (byte ∷ more) ∷ [])
+
+-- an octet of DATA goes on a tunnel's stream that didn't come from its upstream, and one on a stream that has none
+abbrev pub invented : Target → ℕ → List Entry
+invented to byte = e.Accepted 1 door.Inbound ∷ e.Dialled 2 to (whys.Upstream 1 1) ∷ e.Went 1 (spelling (data_with byte)) ∷ []
+
+abbrev pub InventsData : Type 0
+InventsData = (to : Target) (byte : ℕ) → NotMet (invented to byte)
+
+abbrev pub unasked : ℕ → List Entry
+unasked byte = e.Accepted 1 door.Inbound ∷ e.Went 1 (spelling (data_with byte)) ∷ []
+
+abbrev pub SendsUnasked : Type 0
+SendsUnasked = (byte : ℕ) → NotMet (unasked byte)
+
+-- DIALLED: a second upstream is dialled for a stream
+abbrev pub DialsTwice : Type 0
+DialsTwice = (to other : Target)
+    → NotMet (e.Accepted 1 door.Inbound ∷ e.Dialled 2 to (whys.Upstream 1 1) ∷ e.Dialled 3 other (whys.Upstream 1 1) ∷ [])
+
+-- or a link is dialled again, to another target
+abbrev pub DialsElsewhere : Type 0
+DialsElsewhere = (to other : Target) → to ≢ other
+    → NotMet (e.Accepted 1 door.Inbound ∷ e.Dialled 2 to (whys.Upstream 1 1) ∷ e.Dialled 2 other (whys.Upstream 1 1) ∷ [])
+
+-- resources that admit nobody where the upstream was dialled don't make the peer admitted, whatever they admit elsewhere
+abbrev pub AdmitsElsewhere : Type 0
+AdmitsElsewhere = (held : Resources) (to : Target) (came : List ℕ) → ((peer : Peer) → judged held peer to ≢ Admitted)
+    → Admits held (e.Accepted 1 door.Inbound ∷ e.Came 1 came ∷ e.Dialled 2 to (whys.Upstream 1 1) ∷ e.Opened 2 ∷ []) 1 1 2 → ⊥
+
+-- HELD: bytes go to an upstream where the control plane was never dialled; and where it was, but sent nothing: a response that would admit
+-- the peer is forged
+abbrev pub untold : Target → List ℕ → List Entry
+untold to came = e.Accepted 1 door.Inbound ∷ e.Came 1 came ∷ e.Dialled 2 to (whys.Upstream 1 1) ∷ e.Opened 2 ∷ []
+
+abbrev pub AdmitsUntold : Type 0
+AdmitsUntold = (to : Target) (came bytes : List ℕ) → NotMet (untold to came ++ e.Went 2 bytes ∷ [])
+
+abbrev pub unanswered : (at to : Target) → List ℕ → List Entry
+unanswered at to came =
+    e.Dialled 1 at whys.Discovery ∷ e.Opened 1 ∷ e.Accepted 2 door.Inbound ∷ e.Came 2 came ∷ e.Dialled 3 to (whys.Upstream 2 1)
+    ∷ e.Opened 3 ∷ []
+
+abbrev pub AdmitsForged : Type 0
+AdmitsForged = (at to : Target) (came bytes : List ℕ) → NotMet (unanswered at to came ++ e.Went 3 bytes ∷ [])
+
+-- ADMITTED: bytes go on a link that was never born
+abbrev pub SendsUnborn : Type 0
+SendsUnborn = (bytes : List ℕ) → NotMet (e.Went 1 bytes ∷ [])
+
+-- an octet that came from the upstream goes down in a DATA frame that is cut behind its first three octets, where nobody is
+-- admitted
+abbrev pub CutsUnadmitted : Type 0
+CutsUnadmitted = (to : Target) (came : List ℕ) (byte : ℕ)
+    → NotMet (untold to came ++ e.Came 2 (byte ∷ []) ∷ e.Went 1 (0 ∷ 0 ∷ 1 ∷ [])
+    ∷ e.Went 1 (0 ∷ 0 ∷ 0 ∷ 0 ∷ 0 ∷ 1 ∷ byte ∷ []) ∷ [])

@@ -1,0 +1,40 @@
+//! The headline, what it refuses, and what meets it. Each is the contract of a function that does nothing.
+
+ghost use Rattle.hb_headline.specs.Good.{LifeMeetsTheHeadline};
+ghost use Rattle.hb_headline.specs.Headline.{LawfulKeepsTheHeadline};
+ghost use Rattle.hb_headline.specs.Refused.{SendsUnfronted, TunnelsUnfronted, InventsBack, SendsEarly, InventsData};
+ghost use Rattle.hb_headline.specs.Refused.{SendsUnasked, DialsTwice, DialsElsewhere, AdmitsElsewhere, AdmitsUntold, AdmitsForged, SendsUnborn, CutsUnadmitted};
+ghost use Rattle.hb_headline.specs.Relay.{BeganIsNotOne};
+
+/// Each lawful trace meets the headline.
+pub fn headline_holds()
+    ensures { LawfulKeepsTheHeadline }
+{}
+
+/// Small traces don't meet it: bytes that go to a workload without a header, or that it didn't send, or of a stream without one; a second
+/// upstream of a stream; peers who aren't admitted where they go, by nothing that came, or in frames that are cut.
+pub fn small_traces_are_refused()
+    ensures unfronted { SendsUnfronted }
+    ensures tunnel { TunnelsUnfronted }
+    ensures invents { InventsBack }
+    ensures early { SendsEarly }
+    ensures invents_data { InventsData }
+    ensures unasked { SendsUnasked }
+    ensures twice { DialsTwice }
+    ensures again { DialsElsewhere }
+    ensures elsewhere { AdmitsElsewhere }
+    ensures untold { AdmitsUntold }
+    ensures forged { AdmitsForged }
+    ensures unborn { SendsUnborn }
+    ensures cut { CutsUnadmitted }
+{}
+
+/// A life of a tunnel with a response that admits its peer meets it.
+pub fn a_life_meets_it()
+    ensures { LifeMeetsTheHeadline }
+{}
+
+/// The octets that went don't tell which frames have begun: one list of them is fixed for each link.
+pub fn begun_frames_are_not_told()
+    ensures { BeganIsNotOne }
+{}
