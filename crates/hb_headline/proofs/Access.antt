@@ -1,37 +1,29 @@
 -- A lawful trace admits each byte that goes to the upstream of a tunnel.
-use Rattle.std.proofs.Common.{◌≡◌, ◌⊎◌, inl, inr, ℕ, zero, suc, ◌<◌, Bool, true, false, not, cond, List, [], ◌∷◌, ◌++◌, Option, Some, None, fold, refl, ap, ap₂, sym, ◌∙◌, subst, arith}
-use Rattle.std.specs.List.{flat_map}
-use Rattle.std.proofs.lemmas.Bool.{false≢true}
+use Rattle.std.proofs.Common.{◌≡◌, ℕ, zero, suc, ◌<◌, Bool, true, false, not, cond, List, [], ◌∷◌, ◌++◌, Option, Some, None, refl, ap, ap₂, sym, ◌∙◌, subst, arith}
 use Rattle.hb_base.specs.declared.door.Why.TheVariants as whys
 use Rattle.hb_base.specs.declared.peer.Peer.{Peer}
 use Rattle.hb_base.specs.declared.target.Target.{Target}
 use Rattle.hb_front.specs.Reading.{Seen, IsAnswer, Whole}
 use Rattle.hb_held.specs.Held.{Resources}
 use Rattle.hb_inbound.proofs.AdmittedRun.{all_admit}
-use Rattle.hb_inbound.specs.Inbound.{Inbound}
 use Rattle.hb_inbound.specs.Part as part
 use Rattle.hb_inbound.specs.Part.{Part}
-use Rattle.hb_inbound.specs.Runs as inbound
-use Rattle.hb_inbound.specs.Sides.{link_came, peer_of}
-use Rattle.hb_inbound.specs.Tunnel.{Tunnel, Stage, live, takes_place}
-use Rattle.hb_laws.specs.Lawful.{Lawful, Laws}
+use Rattle.hb_inbound.specs.Sides.{link_came}
+use Rattle.hb_inbound.specs.Tunnel.{Tunnel, takes_place}
+use Rattle.hb_laws.specs.Lawful.{Laws}
 use Rattle.hb_laws.proofs.Doors.{came_without, owner_without}
-use Rattle.hb_laws.proofs.Places.{of_upstream}
 use Rattle.hb_model.specs.Messages as messages
-use Rattle.hb_model.specs.Point as point
 use Rattle.hb_model.specs.declared.config.NodeConfig.{NodeConfig}
 use Rattle.hb_proxy.proofs.Owned.{all_owned}
-use Rattle.hb_proxy.proofs.Places.{at_points}
 use Rattle.hb_proxy.proofs.Projection.{links_run, control_holds}
 use Rattle.hb_proxy.specs.Doors.{is_at_door, without_doors}
 use Rattle.hb_proxy.specs.Held.{at_start}
 use Rattle.hb_proxy.specs.Machine.{Machine, local}
-use Rattle.hb_proxy.specs.Owners.{Owner, nobody, owner, upstream_of, inbound_link}
-use Rattle.hb_proxy.specs.Points.{Point, of_link, entry_in, entries, parts_of, control_of}
+use Rattle.hb_proxy.specs.Owners.{Owner, nobody, owner, upstream_of}
+use Rattle.hb_proxy.specs.Points.{Point, of_link, entries, parts_of, control_of}
 use Rattle.hb_proxy.specs.Runs.{Steps, StandsFor}
 use Rattle.hb_table.specs.Judgement.{judged}
-use Rattle.hb_table.specs.declared.judgement.Judged.TheVariants.{Admitted}
-use Rattle.hb_world.specs.Trace.{recv, sent}
+use Rattle.hb_world.specs.Trace.{recv}
 use Rattle.hb_world.specs.declared.entry.Entry.{Entry}
 use Rattle.hb_world.specs.declared.entry.Entry.TheVariants as e
 use Rattle.hb_headline.specs.Access.{peer_in, Admits}
@@ -55,8 +47,12 @@ dialled_in (x ∷ xs) l s u to before behind is = by (is_at_door x) before (λ b
         → cond (not b) (x ∷ without_doors xs) (without_doors xs) ≡ before ++ e.Dialled u to (whys.Upstream l s) ∷ behind
         → IsDialled (x ∷ xs) l s u to
     by true before again is = more (again before behind is)
-    by false [] again is = record { before = []; behind = xs; is = (let same : x ≡ e.Dialled u to (whys.Upstream l s) = cc in ap (λ (z : Entry). z ∷ xs) same) }
-    by false (y ∷ ys) again is = more (again ys behind (let rest : without_doors xs ≡ ys ++ e.Dialled u to (whys.Upstream l s) ∷ behind = cc in rest))
+    by false [] again is =
+        let same : x ≡ e.Dialled u to (whys.Upstream l s) = cc in
+        record { before = []; behind = xs; is = ap (λ (z : Entry). z ∷ xs) same }
+    by false (y ∷ ys) again is =
+        let rest : without_doors xs ≡ ys ++ e.Dialled u to (whys.Upstream l s) ∷ behind = cc in
+        more (again ys behind rest)
 
 pub some_number : (whose : ℕ → Owner) (l s u : ℕ) → whose 0 ≡ nobody → whose u ≡ upstream_of l s → 0 < u
 some_number whose l s zero none own = absurd (let no : nobody ≡ upstream_of l s = sym none ∙ own in cc)
@@ -65,42 +61,44 @@ some_number whose l s (suc u) none own = omega arith
 -- a tunnel that lives, of a machine behind some points
 module _ (g : NodeConfig) (x : Machine) (front : List Point) (run : StandsFor g x front) (before : List Entry)
     (before_is : entries front ≡ without_doors before) (laws : Laws g front) (l s u : ℕ) (own : owner u before ≡ upstream_of l s)
-    where
-  abbrev tunnel : Tunnel
-  tunnel = (x.inbound l).tunnels s
+  where
+    abbrev tunnel : Tunnel
+    tunnel = (x.inbound l).tunnels s
 
-  on_front : owner u (entries front) ≡ upstream_of l s
-  on_front = ap (owner u) before_is ∙ owner_without u before ∙ own
+    on_front : owner u (entries front) ≡ upstream_of l s
+    on_front = ap (owner u) before_is ∙ owner_without u before ∙ own
 
-  abbrev parts : List Part
-  parts = parts_of l front
+    abbrev parts : List Part
+    parts = parts_of l front
 
-  came_same : link_came parts ≡ recv l before
-  came_same =
-      sym (laws.sides.link l ((all_owned g x front run).over l s u on_front)).came ∙ ap (recv l) before_is ∙ came_without l before
+    came_same : link_came parts ≡ recv l before
+    came_same =
+        sym (laws.sides.link l ((all_owned g x front run).over l s u on_front)).came ∙ ap (recv l) before_is ∙ came_without l before
 
-  pub admits_by : tunnel.up ≡ u → takes_place tunnel.stage ≡ true → (o : Option Seen) → header_of parts ≡ o → Admits (messages.held g (control_of front)) before l s u
-  admits_by up_is place None is =
-      let told = ((all_admit l (at_start g) (local x l) parts (links_run g x front l run)).each s place).peer_is in
-      absurd (let no : None ≡ Some (x.inbound l).peer = sym (who_told parts None ∙ ap who_in is) ∙ told in cc)
-  admits_by up_is place (Some seen) is =
-      let admit = (all_admit l (at_start g) (local x l) parts (links_run g x front l run)).each s place in
-      let peers : Some (peer_in seen) ≡ Some (x.inbound l).peer = sym (who_told parts None ∙ ap who_in is) ∙ admit.peer_is in
-      let peer : peer_in seen ≡ (x.inbound l).peer = cc in
-      let some = subst (λ (n : ℕ). 0 < n) (sym up_is) (some_number (λ n. owner n (entries front)) l s u (all_owned g x front run).none on_front) in
-      let dial = all_fit s g x front run l some in
-      record {
-        seen = seen;
-        fronted = subst (λ (bs : List ℕ). IsAnswer bs (Whole seen)) came_same
-            (header_stands l (at_start g) (local x l) parts (links_run g x front l run) seen is);
-        to = tunnel.target;
-        dialled = subst (λ (n : ℕ). IsDialled before l s n tunnel.target) up_is
-            (dialled_in before l s tunnel.up tunnel.target dial.before dial.behind (sym before_is ∙ dial.is));
-        admitted = ap₂ (λ (h : Resources) (p : Peer). judged h p tunnel.target) (sym (control_holds g x front run)) peer ∙ admit.admitted;
-      }
+    pub admits_by : tunnel.up ≡ u → takes_place tunnel.stage ≡ true → (o : Option Seen) → header_of parts ≡ o
+        → Admits (messages.held g (control_of front)) before l s u
+    admits_by up_is place None is =
+        let told = ((all_admit l (at_start g) (local x l) parts (links_run g x front l run)).each s place).peer_is in
+        absurd (let no : None ≡ Some (x.inbound l).peer = sym (who_told parts None ∙ ap who_in is) ∙ told in cc)
+    admits_by up_is place (Some seen) is =
+        let admit = (all_admit l (at_start g) (local x l) parts (links_run g x front l run)).each s place in
+        let peers : Some (peer_in seen) ≡ Some (x.inbound l).peer = sym (who_told parts None ∙ ap who_in is) ∙ admit.peer_is in
+        let peer : peer_in seen ≡ (x.inbound l).peer = cc in
+        let some = subst (λ (n : ℕ). 0 < n) (sym up_is)
+        (some_number (λ n. owner n (entries front)) l s u (all_owned g x front run).none on_front) in
+        let dial = all_fit s g x front run l some in
+        record {
+          seen = seen;
+          fronted = subst (λ (bs : List ℕ). IsAnswer bs (Whole seen)) came_same
+              (header_stands l (at_start g) (local x l) parts (links_run g x front l run) seen is);
+          to = tunnel.target;
+          dialled = subst (λ (n : ℕ). IsDialled before l s n tunnel.target) up_is
+              (dialled_in before l s tunnel.up tunnel.target dial.before dial.behind (sym before_is ∙ dial.is));
+          admitted = ap₂ (λ (h : Resources) (p : Peer). judged h p tunnel.target) (sym (control_holds g x front run)) peer ∙ admit.admitted;
+        }
 
-  -- where bytes go to the upstream the tunnel lives
-  pub admits_up : (y : Machine) (bytes : List ℕ) → Steps g x (of_link l (part.up s (e.Went u bytes))) y
-      → Admits (messages.held g (control_of front)) before l s u
-  admits_up y bytes steps =
-      let may = steps.1.0.0 in admits_by may.2 (ap takes_place may.1) (header_of parts) refl
+    -- where bytes go to the upstream the tunnel lives
+    pub admits_up : (y : Machine) (bytes : List ℕ) → Steps g x (of_link l (part.up s (e.Went u bytes))) y
+        → Admits (messages.held g (control_of front)) before l s u
+    admits_up y bytes steps =
+        let may = steps.1.0.0 in admits_by may.2 (ap takes_place may.1) (header_of parts) refl

@@ -1,8 +1,8 @@
 -- Which frames have begun where so many octets went, of a list of which others begin later.
-use Rattle.std.proofs.Common.{◌≡◌, inl, inr, ℕ, ◌+◌, ◌-◌, ◌<◌, ◌≤◌, List, [], ◌∷◌, ◌++◌, length, refl, ap, sym, ◌∙◌, subst, arith, length-append}
+use Rattle.std.proofs.Common.{◌≡◌, inl, inr, ℕ, ◌+◌, ◌-◌, ◌<◌, ◌≤◌, List, [], ◌∷◌, ◌++◌, length, ap, sym, ◌∙◌, arith, length-append}
 use Rattle.std.proofs.lemmas.List.{append_assoc}
 use Rattle.hb_frames.specs.RawFrame.{RawFrame, spelling}
-use Rattle.hb_kept.specs.Payloads.{Began, InPart}
+use Rattle.hb_kept.specs.Payloads.{Began}
 use Rattle.hb_outgoing.proofs.Sent.{begun_whole}
 use Rattle.hb_outgoing.proofs.Walks.{begun_more}
 use Rattle.hb_outgoing.specs.Waiting.{spelled}

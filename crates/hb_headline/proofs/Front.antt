@@ -1,14 +1,14 @@
 -- The front header of an inbound link stands in front of the bytes that came on it, in every run of a link.
-use Rattle.std.proofs.Common.{◌≡◌, ℕ, List, [], ◌∷◌, ◌++◌, length, Option, Some, None, fold, refl, ap, sym, ◌∙◌, subst}
+use Rattle.std.proofs.Common.{◌≡◌, ℕ, List, [], ◌∷◌, ◌++◌, Option, Some, None, fold, refl, ap, sym, ◌∙◌, subst}
 use Rattle.std.proofs.lemmas.List.{append-nil, append_assoc}
 use Rattle.std.proofs.lemmas.List.Concat.{flat_map-append}
 use Rattle.hb_base.specs.declared.peer.Peer.{Peer}
 use Rattle.hb_front.specs.Reading.{Seen, IsAnswer, Whole}
 use Rattle.hb_held.specs.Held.{Resources}
-use Rattle.hb_inbound.specs.Inbound.{Phase, fronting}
+use Rattle.hb_inbound.specs.Inbound.{Phase}
 use Rattle.hb_inbound.specs.Part.{Part, fronted}
 use Rattle.hb_inbound.specs.Runs.{Local, Steps, StandsFor}
-use Rattle.hb_inbound.specs.Sides.{came_in, link_came, front_by, front_size, peer_by, peer_of, identity_told, AtEach}
+use Rattle.hb_inbound.specs.Sides.{came_in, link_came, front_by, peer_by, AtEach}
 use Rattle.hb_inbound.proofs.Grown.{at_parts}
 use Rattle.hb_inbound.proofs.Runs.{FrontBy, all_keep}
 use Rattle.hb_headline.specs.Access.{peer_in}

@@ -1,5 +1,5 @@
 -- The front of a run's points that a front of its trace has.
-use Rattle.std.proofs.Common.{◌≡◌, ◌⊎◌, inl, inr, ℕ, zero, suc, ◌-◌, ◌≤◌, Bool, true, false, cond, List, [], ◌∷◌, ◌++◌, length, refl, ap, sym, ◌∙◌, subst, arith, length-append}
+use Rattle.std.proofs.Common.{◌≡◌, ◌⊎◌, inl, inr, ℕ, ◌-◌, ◌≤◌, Bool, true, false, cond, List, [], ◌∷◌, ◌++◌, length, refl, ap, sym, ◌∙◌, arith, length-append}
 use Rattle.std.specs.Prelude.{nat_le}
 use Rattle.std.proofs.lemmas.Bool.Decides.{nat_tests}
 use Rattle.hb_proxy.proofs.Places.{short}
@@ -38,7 +38,8 @@ grows_at n m most (p ∷ points) =
         → Splits (front_at m (p ∷ points)) (cond b (p ∷ front_at (n - k) points) [])
     by true is rest = record {
       back = rest.back;
-      is = ap (λ (b : Bool). cond b (p ∷ front_at (m - k) points) []) (let fits : nat_le k m ≡ true = grind (arith, nat_tests, is, most) in fits)
+      is = ap (λ (b : Bool). cond b (p ∷ front_at (m - k) points) [])
+          (let fits : nat_le k m ≡ true = grind (arith, nat_tests, is, most) in fits)
           ∙ ap (λ (ps : List Point). p ∷ ps) rest.is;
     }
     by false is rest = record { back = front_at m (p ∷ points); is = refl }

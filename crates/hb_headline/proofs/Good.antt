@@ -1,7 +1,7 @@
 -- A life of a tunnel meets the headline.
-use Rattle.std.proofs.Common.{◌≡◌, ◌≢◌, ◌⊎◌, inl, inr, ⊎_elim, ℕ, ◌<◌, ◌-◌, ◌==◌, ◌&&◌, ◌||◌, Bool, true, false, cond, List, [], ◌∷◌, ◌++◌, length, take, drop, map, fold, Some, None, Result, Ok, refl, ap, sym, ◌∙◌, subst, arith}
+use Rattle.std.proofs.Common.{◌≡◌, ◌≢◌, ◌⊎◌, inl, inr, ⊎_elim, ℕ, ◌<◌, ◌-◌, ◌==◌, ◌||◌, Bool, true, false, cond, List, [], ◌∷◌, ◌++◌, length, drop, map, fold, None, Ok, refl, ap, sym, ◌∙◌, subst, arith}
 use Rattle.std.specs.List.{flat_map, list_any}
-use Rattle.std.proofs.lemmas.Bool.{false≢true, eqb-true, eq-eqb}
+use Rattle.std.proofs.lemmas.Bool.{false≢true, eqb-true}
 use Rattle.std.proofs.lemmas.List.{append-nil, append_assoc, take_all}
 use Rattle.std.proofs.lemmas.List.Concat.{flat_map-append}
 use Rattle.hb_base.specs.declared.door.Door.TheVariants as door
@@ -11,17 +11,15 @@ use Rattle.hb_base.specs.declared.target.Target.{Target}
 use Rattle.hb_disco.specs.Response.{response_of}
 use Rattle.hb_disco.specs.declared.response.Response.{Response}
 use Rattle.hb_frames.specs.Bodies.{lent_of}
-use Rattle.hb_frames.specs.RawFrame.{RawFrame, Fits, Spells, spelling}
-use Rattle.hb_frames.specs.Numbers.{data_kind}
+use Rattle.hb_frames.specs.RawFrame.{RawFrame, Spells, spelling}
 use Rattle.hb_front.specs.Reading.{Seen, IsAnswer, Whole}
 use Rattle.hb_front.specs.Written.{header_of, front_text}
 use Rattle.hb_grpc.specs.Framed.{framed_of}
 use Rattle.hb_held.specs.Outcome.{after_response}
-use Rattle.hb_held.specs.Held.{Resources}
 use Rattle.hb_kept.specs.Payloads.{payloads}
 use Rattle.hb_laws.proofs.Tests.{none_of_both, none_in_front}
 use Rattle.hb_laws.specs.Good.{source, destination}
-use Rattle.hb_model.specs.Calls.{is_control_of, IsControl}
+use Rattle.hb_model.specs.Calls.{is_control_of}
 use Rattle.hb_model.specs.Discovery.{longest_message}
 use Rattle.hb_model.specs.declared.config.NodeConfig.{NodeConfig}
 use Rattle.hb_outgoing.specs.Written.{begun_in}
@@ -29,15 +27,15 @@ use Rattle.hb_proxy.specs.Held.{at_start}
 use Rattle.hb_proxy.specs.Owners.{Owner, nobody, control_plane, inbound_link, upstream_of, relay_of, at_door, dialled_for, owner_by, owner}
 use Rattle.hb_table.specs.Judgement.{judged}
 use Rattle.hb_table.specs.declared.judgement.Judged.TheVariants.{Admitted}
-use Rattle.hb_world.specs.Trace.{recv, sent, came_on, went_on}
+use Rattle.hb_world.specs.Trace.{recv, sent, went_on}
 use Rattle.hb_world.specs.declared.entry.Entry.{Entry}
 use Rattle.hb_world.specs.declared.entry.Entry.TheVariants as e
-use Rattle.hb_headline.specs.Access.{Admits, AreAdmitted, GoesAdmitted}
+use Rattle.hb_headline.specs.Access.{Admits, GoesAdmitted}
 use Rattle.hb_headline.specs.Dials.{IsDialled, UpstreamIs}
 use Rattle.hb_headline.specs.Good.{data_of, told_so, tunnelled, life, LifeMeetsTheHeadline}
 use Rattle.hb_headline.specs.Headline.{Headline}
-use Rattle.hb_headline.specs.Held.{Applied, AreRead, AreTold, Holds, made_by, on_link}
-use Rattle.hb_headline.specs.Relay.{IsFront, TunnelRelaysUp, LinkRelaysDown, begun_on, begin_with, data_with}
+use Rattle.hb_headline.specs.Held.{Applied, AreRead, AreTold, made_by, on_link}
+use Rattle.hb_headline.specs.Relay.{IsFront, TunnelRelaysUp, LinkRelaysDown, begun_on, data_with}
 use Rattle.hb_headline.proofs.Dials.{is_dialled}
 use Rattle.hb_headline.proofs.OneTarget.{one_dial}
 use Rattle.hb_headline.proofs.Refused.{no_messages, the_first}
@@ -221,7 +219,8 @@ module _ (g : NodeConfig) (at to : Target) (bytes : List ℕ) (r : Response) (up
 
   abbrev later : List Entry
   later =
-      e.Dialled 3 to (whys.Upstream 2 1) ∷ e.Opened 3 ∷ e.Went 3 (up ∷ []) ∷ e.Came 3 (down ∷ []) ∷ e.Went 2 (spelling (data_with down)) ∷ []
+      e.Dialled 3 to (whys.Upstream 2 1) ∷ e.Opened 3 ∷ e.Went 3 (up ∷ []) ∷ e.Came 3 (down ∷ [])
+      ∷ e.Went 2 (spelling (data_with down)) ∷ []
 
   up_behind : (more after : List Entry) → later ≡ more ++ after → TunnelRelaysUp (opening ++ more) 2 1 3
   up_behind more after are = record {
@@ -433,7 +432,8 @@ module _ (g : NodeConfig) (at to : Target) (bytes : List ℕ) (r : Response) (up
       subst (λ (es : List Entry). GoesAdmitted (made_by g (applied es)) frames es u bs) before
       (subst (λ (k : ℕ). GoesAdmitted (made_by g (applied body)) frames body k bs) link
       (subst (GoesAdmitted (made_by g (applied body)) frames body 2) went goes_down))
-  goes (a ∷ b ∷ c ∷ d ∷ x ∷ y ∷ z ∷ v ∷ w ∷ t ∷ before) u bs after are = absurd (no_more before (let rest : [] ≡ before ++ e.Went u bs ∷ after = cc in rest))
+  goes (a ∷ b ∷ c ∷ d ∷ x ∷ y ∷ z ∷ v ∷ w ∷ t ∷ before) u bs after are =
+      absurd (no_more before (let rest : [] ≡ before ++ e.Went u bs ∷ after = cc in rest))
     where
       no_more : (before : List Entry) → [] ≡ before ++ e.Went u bs ∷ after → ⊥
       no_more [] is = cc

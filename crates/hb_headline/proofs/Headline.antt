@@ -8,7 +8,6 @@ use Rattle.hb_captured.specs.Sides.{door_of}
 use Rattle.hb_conn.specs.Observed.{outgoing}
 use Rattle.hb_frames.specs.RawFrame.{RawFrame}
 use Rattle.hb_held.specs.Held.{Resources}
-use Rattle.hb_inbound.specs.Part as part
 use Rattle.hb_inbound.specs.Sides.{link_went}
 use Rattle.hb_kept.proofs.Begun.{have_begun, first_octet_begins}
 use Rattle.hb_kept.specs.Payloads.{Began}
@@ -22,8 +21,8 @@ use Rattle.hb_proxy.proofs.Owned.{all_owned}
 use Rattle.hb_proxy.specs.Access.{PlainIsAdmitted}
 use Rattle.hb_proxy.specs.Doors.{without_doors}
 use Rattle.hb_proxy.specs.Machine.{Machine}
-use Rattle.hb_proxy.specs.Owners.{owner, inbound_link, upstream_of, plain_link, relay_of}
-use Rattle.hb_proxy.specs.Points.{Point, of_link, entry_in, entries, control_of, control_in, parts_of, plain_of}
+use Rattle.hb_proxy.specs.Owners.{owner, inbound_link, upstream_of, plain_link}
+use Rattle.hb_proxy.specs.Points.{Point, entries, control_of, control_in, parts_of, plain_of}
 use Rattle.hb_proxy.specs.Runs.{Steps, StandsFor}
 use Rattle.hb_world.specs.Trace.{sent}
 use Rattle.hb_world.specs.declared.entry.Entry.{Entry}
@@ -35,7 +34,7 @@ use Rattle.hb_headline.specs.Relay.{PlainRelays, TunnelRelaysUp, LinkRelaysDown,
 use Rattle.hb_headline.proofs.Access.{admits_up}
 use Rattle.hb_headline.proofs.Dials.{lawful_upstreams}
 use Rattle.hb_headline.proofs.Down.{relayed, unasked_none, down_admitted}
-use Rattle.hb_headline.proofs.Fronts.{front_at, Splits, split_at, grows_at, entries_at, place_at}
+use Rattle.hb_headline.proofs.Fronts.{front_at, split_at, grows_at, entries_at, place_at}
 use Rattle.hb_headline.proofs.Held.{applied_in, applied_of, are_told, made_is}
 use Rattle.hb_headline.proofs.OneLink.{IsOne}
 use Rattle.hb_headline.proofs.OneList.{PlaceIs, AllBegin, all_begin, new_on}
@@ -109,7 +108,8 @@ module _ (g : NodeConfig) (trace : List Entry) (h : Lawful g trace) where
             (have_begun (link_went (parts_of l h.points)) w.rest (frames l) w.begun one.shows one.ends);
         fronts = λ before after are s u mine.
             let at = behind l before in
-            relayed g at.machine (front_of before) at.run before (entries_are before after are) (laws_at before) l (frames l) at.old at.later
+            relayed g at.machine (front_of before) at.run before (entries_are before after are) (laws_at before) l (frames l) at.old
+            at.later
             at.is at.one s u mine;
         none = λ before after are mine s nobody.
             let at = behind l before in
@@ -138,8 +138,8 @@ module _ (g : NodeConfig) (trace : List Entry) (h : Lawful g trace) where
         let split = grows_at (length (without_doors before)) (length (without_doors (before ++ more))) most h.points in (
           applied_of (control_of split.back),
           ap (λ (ps : List Point). applied_of (control_of ps)) split.is
-          ∙ ap applied_of (flat_map-append control_in (front_of before) split.back)
-          ∙ flat_map-append applied_in (control_of (front_of before)) (control_of split.back),
+              ∙ ap applied_of (flat_map-append control_in (front_of before) split.back)
+              ∙ flat_map-append applied_in (control_of (front_of before)) (control_of split.back),
         );
   }
 

@@ -1,5 +1,5 @@
 -- What is held in a lawful trace is what the responses make that came from the control plane.
-use Rattle.std.proofs.Common.{◌≡◌, ◌⊎◌, inl, inr, ℕ, ◌==◌, ◌||◌, Bool, true, false, cond, List, [], ◌∷◌, ◌++◌, map, Result, Ok, fold, refl, ap, sym, ◌∙◌, subst}
+use Rattle.std.proofs.Common.{◌≡◌, inl, inr, ℕ, ◌==◌, ◌||◌, Bool, true, false, cond, List, [], ◌∷◌, ◌++◌, map, Ok, fold, refl, ap, sym, ◌∙◌, subst}
 use Rattle.std.specs.List.{flat_map, list_any, AllByRecursion}
 use Rattle.std.proofs.lemmas.Bool.{false≢true}
 use Rattle.std.proofs.lemmas.List.{append_assoc}
@@ -11,7 +11,6 @@ use Rattle.hb_conn.specs.declared.machine.Core.{Core}
 use Rattle.hb_disco.specs.declared.response.Response.{Response}
 use Rattle.hb_frames.specs.Bodies.{lent_of}
 use Rattle.hb_frames.specs.Frames.{Joins}
-use Rattle.hb_frames.specs.RawFrame.{RawFrame}
 use Rattle.hb_held.specs.Held.{Resources}
 use Rattle.hb_history.specs.Points as history
 use Rattle.hb_history.specs.Points.{Move, got, After, Runs, got_by, frames_got, data_of, data_in}
@@ -24,7 +23,7 @@ use Rattle.hb_model.specs.Point.{moves}
 use Rattle.hb_model.specs.declared.config.NodeConfig.{NodeConfig}
 use Rattle.hb_proxy.specs.Doors.{without_doors}
 use Rattle.hb_proxy.specs.Held.{at_start}
-use Rattle.hb_proxy.specs.Points.{Point, of_control, of_link, of_plain, of_gate, of_stream, entry_in, entries, control_of}
+use Rattle.hb_proxy.specs.Points.{Point, entries, control_of}
 use Rattle.hb_world.specs.Trace.{recv}
 use Rattle.hb_world.specs.declared.entry.Entry.{Entry}
 use Rattle.hb_headline.specs.Held.{Applied, apply, made_by, on_link, PicksAny, AreRead, AreTold}
@@ -72,43 +71,44 @@ or_left false b is = absurd (false≢true is)
 in_front : (is : Entry → Bool) (xs ys : List Entry) → list_any is xs ≡ true → list_any is (xs ++ ys) ≡ true
 in_front is xs ys was = list_any-append is xs ys ∙ or_left (list_any is xs) (list_any is ys) was
 
-module _ (g : NodeConfig) (before : List Entry) (front : List Point) (before_is : entries front ≡ without_doors before) (laws : Laws g front)
-    where
-  read : (d : ℕ) → IsControl d before → AreRead before d (flat_map (on_link d) (applied_of (control_of front)))
-  read d is =
-      let on_front : IsControl d (entries front) =
-      ap (list_any (is_control_of d)) before_is ∙ any_without (is_control_of d) (λ w. refl) before ∙ is in
-      let known = laws.sides.known d on_front in
-      let one = laws.control.connections d known.told in
-      let applied = laws.control.messages d known.told in
-      let came = sym (laws.sides.control d known.owned).came ∙ ap (recv d) before_is ∙ came_without d before in
-      record {
-        frames = frames_got (moves d (control_of front));
-        partial = one.conn.receiver.reader.held;
-        framed = subst (Joins (frames_got (moves d (control_of front))) one.conn.receiver.reader.held) came one.stands.came.frames_are;
-        came = data_came d (control_of front);
-        picked = picks _ (moves d (control_of front)) _ one.stands.runs;
-        more = applied.more;
-        read = applied.read ∙ ap (λ (rs : List Response). map Ok rs ++ applied.more) (sym (same d (control_of front)));
-      }
+module _ (g : NodeConfig) (before : List Entry) (front : List Point) (before_is : entries front ≡ without_doors before)
+    (laws : Laws g front)
+  where
+    read : (d : ℕ) → IsControl d before → AreRead before d (flat_map (on_link d) (applied_of (control_of front)))
+    read d is =
+        let on_front : IsControl d (entries front) =
+        ap (list_any (is_control_of d)) before_is ∙ any_without (is_control_of d) (λ w. refl) before ∙ is in
+        let known = laws.sides.known d on_front in
+        let one = laws.control.connections d known.told in
+        let applied = laws.control.messages d known.told in
+        let came = sym (laws.sides.control d known.owned).came ∙ ap (recv d) before_is ∙ came_without d before in
+        record {
+          frames = frames_got (moves d (control_of front));
+          partial = one.conn.receiver.reader.held;
+          framed = subst (Joins (frames_got (moves d (control_of front))) one.conn.receiver.reader.held) came one.stands.came.frames_are;
+          came = data_came d (control_of front);
+          picked = picks _ (moves d (control_of front)) _ one.stands.runs;
+          more = applied.more;
+          read = applied.read ∙ ap (λ (rs : List Response). map Ok rs ++ applied.more) (sym (same d (control_of front)));
+        }
 
-  control_in_front : (d : ℕ) (pre rest : List point.Point) → control_of front ≡ pre ++ rest → IsControl d (point.entries pre)
-      → IsControl d before
-  control_in_front d pre rest are is =
-      sym (any_without (is_control_of d) (λ w. refl) before) ∙ sym (ap (list_any (is_control_of d)) before_is)
-      ∙ told (is_control_of d) front
-      (ap (λ (ps : List point.Point). list_any (is_control_of d) (point.entries ps)) are
-      ∙ ap (list_any (is_control_of d)) (flat_map-append point.entry_in pre rest)
-      ∙ in_front (is_control_of d) (point.entries pre) (point.entries rest) is)
+    control_in_front : (d : ℕ) (pre rest : List point.Point) → control_of front ≡ pre ++ rest → IsControl d (point.entries pre)
+        → IsControl d before
+    control_in_front d pre rest are is =
+        sym (any_without (is_control_of d) (λ w. refl) before) ∙ sym (ap (list_any (is_control_of d)) before_is)
+        ∙ told (is_control_of d) front
+        (ap (λ (ps : List point.Point). list_any (is_control_of d) (point.entries ps)) are
+        ∙ ap (list_any (is_control_of d)) (flat_map-append point.entry_in pre rest)
+        ∙ in_front (is_control_of d) (point.entries pre) (point.entries rest) is)
 
-  only : (pre rest : List point.Point) → control_of front ≡ pre ++ rest
-      → AllByRecursion (λ (a : Applied). IsControl a.link before) (applied_of rest)
-  only pre [] are = tt
-  only pre (point.applied l r ∷ rest) are = (
-    control_in_front l pre (point.applied l r ∷ rest) are (laws.control.inner pre (point.applied l r) rest are).control,
-    only (pre ++ point.applied l r ∷ []) rest (are ∙ sym (append_assoc pre (point.applied l r ∷ []) rest)),
-  )
-  only pre (q ∷ rest) are = only (pre ++ q ∷ []) rest (are ∙ sym (append_assoc pre (q ∷ []) rest))
+    only : (pre rest : List point.Point) → control_of front ≡ pre ++ rest
+        → AllByRecursion (λ (a : Applied). IsControl a.link before) (applied_of rest)
+    only pre [] are = tt
+    only pre (point.applied l r ∷ rest) are = (
+      control_in_front l pre (point.applied l r ∷ rest) are (laws.control.inner pre (point.applied l r) rest are).control,
+      only (pre ++ point.applied l r ∷ []) rest (are ∙ sym (append_assoc pre (point.applied l r ∷ []) rest)),
+    )
+    only pre (q ∷ rest) are = only (pre ++ q ∷ []) rest (are ∙ sym (append_assoc pre (q ∷ []) rest))
 
-  pub are_told : AreTold before (applied_of (control_of front))
-  are_told = record { only = only [] (control_of front) refl; first = read }
+    pub are_told : AreTold before (applied_of (control_of front))
+    are_told = record { only = only [] (control_of front) refl; first = read }

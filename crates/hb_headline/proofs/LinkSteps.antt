@@ -1,5 +1,5 @@
 -- What a point of the whole makes of one inbound link: a step by one part, or nothing.
-use Rattle.std.proofs.Common.{◌≡◌, ◌⊎◌, inl, inr, ℕ, ◌==◌, Bool, true, false, cond, List, [], ◌∷◌, refl, ap, sym, ◌∙◌, subst, arith}
+use Rattle.std.proofs.Common.{◌≡◌, ◌⊎◌, inl, inr, ℕ, ◌==◌, Bool, true, false, cond, [], ◌∷◌, refl, ap, sym, subst, arith}
 use Rattle.std.proofs.lemmas.Bool.{eqb-true}
 use Rattle.hb_held.specs.Held.{Resources}
 use Rattle.hb_inbound.specs.Inbound.{Inbound}
@@ -58,8 +58,10 @@ module _ (g : NodeConfig) (x : Machine) (l : ℕ) where
 
       by : (same : Bool) → (k == l) ≡ same → LinkGoes l x (of_link k p) (with_part k p next x)
       by false is =
-          inl (ap (λ (b : Bool). cond b (p ∷ []) []) is,
-          ap (λ (b : Bool). record { held = x.control.held; link = cond b next (x.inbound l) }) (other l k is))
+          inl (
+            ap (λ (b : Bool). cond b (p ∷ []) []) is,
+            ap (λ (b : Bool). record { held = x.control.held; link = cond b next (x.inbound l) }) (other l k is),
+          )
       by true is = inr (record {
         p = p;
         part_is = ap (λ (b : Bool). cond b (p ∷ []) []) is;

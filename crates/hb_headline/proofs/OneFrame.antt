@@ -1,9 +1,9 @@
 -- Octets that spell a frame have begun no other frames.
-use Rattle.std.proofs.Common.{◌≡◌, inl, inr, ℕ, ◌/◌, ◌%◌, ◌<◌, List, [], ◌∷◌, ◌++◌, length, drop, refl, ap, sym, ◌∙◌, arith, length-append}
+use Rattle.std.proofs.Common.{◌≡◌, inl, inr, ℕ, ◌/◌, ◌%◌, List, [], ◌∷◌, ◌++◌, length, drop, refl, ap, sym, ◌∙◌, arith, length-append}
 use Rattle.std.proofs.lemmas.List.{append-nil, append_assoc}
 use Rattle.std.proofs.Math.Seq.{drop-append_seam}
 use Rattle.hb_frames.specs.RawFrame.{RawFrame, spelling}
-use Rattle.hb_kept.specs.Payloads.{Began, InPart}
+use Rattle.hb_kept.specs.Payloads.{Began}
 use Rattle.hb_outgoing.specs.Waiting.{spelled}
 use Rattle.hb_headline.proofs.OneLink.{same_fronts}
 

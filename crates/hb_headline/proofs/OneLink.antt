@@ -3,7 +3,7 @@ use Rattle.std.proofs.Common.{◌≡◌, ◌⊎◌, inl, inr, ℕ, ◌≤◌, Bo
 use Rattle.std.proofs.lemmas.Grind.{flat_map-append}
 use Rattle.std.proofs.lemmas.List.{append_assoc, append-nil, nil_from_length}
 use Rattle.std.proofs.Math.Seq.{take-append_seam}
-use Rattle.hb_conn.specs.Connection.{Connection, fresh_server, taken}
+use Rattle.hb_conn.specs.Connection.{Connection, taken}
 use Rattle.hb_conn.specs.Observed as observed
 use Rattle.hb_conn.specs.Observed.{outgoing, frames_begun, creditable, status_put, aborted}
 use Rattle.hb_conn.specs.declared.found.Found.{Found}
@@ -69,7 +69,7 @@ pub came_front : (parts : List Part) (begun : List RawFrame) (c : Connection) (s
 came_front parts begun c s t is = (
   payloads s (outgoing c).queue ++ is.follows.rest,
   is.follows.front ∙ ap (λ (xs : List ℕ). xs ++ is.follows.rest) (flat_map-append (payload_on s) begun (outgoing c).queue)
-  ∙ append_assoc (payloads s begun) (payloads s (outgoing c).queue) is.follows.rest,
+      ∙ append_assoc (payloads s begun) (payloads s (outgoing c).queue) is.follows.rest,
 )
 
 -- the same is said of frames with the same DATA
@@ -237,7 +237,8 @@ module _ (l : ℕ) (start : Resources) (a : Local) (parts : List Part) (stands :
               let follows =
               writes_follow Server (moves parts) (tellings parts) (conn_came parts) (link_went parts) conn keeps.one.stands s n begun
               (up_came s parts) (a.link.tunnels s).ways.down.held (one.sends s).follows in
-              begins_down parts p begun (frames_begun n conn) (observed.wrote conn n) s (a.link.tunnels s) _ refl follows refl refl refl conn
+              begins_down parts p begun (frames_begun n conn) (observed.wrote conn n) s (a.link.tunnels s) _ refl follows refl refl refl
+              conn
               (one.sends s);
         }
 

@@ -1,9 +1,9 @@
 -- One list of the frames that begin on an inbound link, for the whole of a run.
-use Rattle.std.proofs.Common.{◌≡◌, ◌⊎◌, inl, inr, ⊎_elim, ℕ, List, [], ◌∷◌, ◌++◌, refl, ap, sym, ◌∙◌, subst}
+use Rattle.std.proofs.Common.{◌≡◌, inl, inr, ⊎_elim, ℕ, List, [], ◌∷◌, ◌++◌, refl, ap, sym, ◌∙◌, subst}
 use Rattle.std.proofs.lemmas.Bool.{false≢true}
 use Rattle.std.proofs.lemmas.List.{append_assoc, append-nil}
 use Rattle.hb_frames.specs.RawFrame.{RawFrame}
-use Rattle.hb_inbound.specs.Inbound.{Inbound, no_link}
+use Rattle.hb_inbound.specs.Inbound.{no_link}
 use Rattle.hb_inbound.specs.Part.{Part}
 use Rattle.hb_inbound.specs.Runs.{Local}
 use Rattle.hb_model.proofs.Grown.{one_more}
@@ -14,7 +14,7 @@ use Rattle.hb_proxy.specs.Held.{at_start}
 use Rattle.hb_proxy.specs.Machine.{Machine, local}
 use Rattle.hb_proxy.specs.Points.{Point, part_in, parts_of}
 use Rattle.hb_proxy.specs.Runs.{Steps, StandsFor, begins, goes_on}
-use Rattle.hb_headline.proofs.LinkSteps.{StepsBy, LinkGoes, link_goes}
+use Rattle.hb_headline.proofs.LinkSteps.{LinkGoes, link_goes}
 use Rattle.hb_headline.proofs.OneLink.{IsOne, begun_with, next}
 
 -- the frames that begin on a link with the parts that a point makes of it

@@ -1,5 +1,5 @@
 -- A link is dialled once, so to one target.
-use Rattle.std.proofs.Common.{◌≡◌, ℕ, ◌+◌, ◌==◌, Bool, true, cond, List, [], ◌∷◌, ◌++◌, refl, ap, sym, ◌∙◌, arith}
+use Rattle.std.proofs.Common.{◌≡◌, ℕ, ◌+◌, ◌==◌, Bool, cond, List, [], ◌∷◌, ◌++◌, refl, ap, sym, ◌∙◌, arith}
 use Rattle.std.specs.List.{flat_map}
 use Rattle.std.proofs.lemmas.Bool.{eq-eqb}
 use Rattle.std.proofs.lemmas.List.Concat.{flat_map-append}
@@ -69,7 +69,8 @@ pub one_dial : (trace : List Entry) (l s u : ℕ) (to other : Target) → flat_m
     → IsDialled trace l s u other → other ≡ to
 one_dial trace l s u to other all d =
     by (flat_map (target_in u) d.before)
-    (ap (λ (b : Bool). flat_map (target_in u) d.before ++ (cond b (other ∷ []) [] ++ flat_map (target_in u) d.behind)) (sym (eq-eqb u u refl))
+    (ap (λ (b : Bool). flat_map (target_in u) d.before ++ (cond b (other ∷ []) [] ++ flat_map (target_in u) d.behind))
+    (sym (eq-eqb u u refl))
     ∙ sym (flat_map-append (target_in u) d.before (e.Dialled u other (whys.Upstream l s) ∷ d.behind))
     ∙ sym (ap (flat_map (target_in u)) d.is) ∙ all)
   where

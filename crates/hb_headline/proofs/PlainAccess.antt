@@ -1,22 +1,21 @@
 -- A lawful trace admits each byte that goes on a link of the plain door, or to its upstream.
-use Rattle.std.proofs.Common.{◌≡◌, ℕ, Bool, true, false, cond, List, [], ◌∷◌, ◌++◌, Some, fold, refl, ap, sym, ◌∙◌, subst}
+use Rattle.std.proofs.Common.{◌≡◌, ℕ, true, List, ◌∷◌, fold, refl, ap, sym, ◌∙◌, subst}
 use Rattle.std.proofs.lemmas.Bool.{false≢true}
 use Rattle.hb_base.specs.declared.door.Door.{Door}
 use Rattle.hb_base.specs.declared.door.Door.TheVariants as door
 use Rattle.hb_captured.specs.Captured.{judges}
-use Rattle.hb_captured.specs.Sides.{door_of, header_of}
-use Rattle.hb_front.specs.Reading.{Seen, IsAnswer, Whole}
+use Rattle.hb_captured.specs.Sides.{door_of}
+use Rattle.hb_front.specs.Reading.{IsAnswer, Whole}
 use Rattle.hb_laws.specs.Lawful.{Laws}
 use Rattle.hb_laws.proofs.BirthDoor.{door_told}
 use Rattle.hb_laws.proofs.Doors.{same_without, came_without}
 use Rattle.hb_model.specs.Messages.{held}
 use Rattle.hb_model.specs.declared.config.NodeConfig.{NodeConfig}
-use Rattle.hb_proxy.proofs.Owned.{all_owned}
 use Rattle.hb_proxy.specs.Access.{PlainIsAdmitted}
 use Rattle.hb_proxy.specs.Doors.{is_at_door, without_doors}
 use Rattle.hb_proxy.specs.Held.{at_start}
 use Rattle.hb_proxy.specs.Machine.{Machine}
-use Rattle.hb_proxy.specs.Owners.{owner, plain_link, relay_of}
+use Rattle.hb_proxy.specs.Owners.{owner, plain_link}
 use Rattle.hb_proxy.specs.Points.{Point, entries, plain_of, control_of}
 use Rattle.hb_proxy.specs.Runs.{StandsFor}
 use Rattle.hb_world.specs.Trace.{recv}
@@ -40,16 +39,16 @@ door_without l trace =
 
 module _ (g : NodeConfig) (x : Machine) (front : List Point) (run : StandsFor g x front) (before : List Entry)
     (before_is : entries front ≡ without_doors before) (laws : Laws g front) (l : ℕ) (own : owner l (entries front) ≡ plain_link)
-    where
-  pub judges_it : door_at l before ≡ door.Plain → judges (door_of (plain_of l front)) ≡ true
-  judges_it at =
-      ap judges (door_told l g x front run own ∙ ap (door_at l) before_is ∙ door_without l before ∙ at)
+  where
+    pub judges_it : door_at l before ≡ door.Plain → judges (door_of (plain_of l front)) ≡ true
+    judges_it at =
+        ap judges (door_told l g x front run own ∙ ap (door_at l) before_is ∙ door_without l before ∙ at)
 
-  pub admits : PlainIsAdmitted g front l → AdmitsPlain (held g (control_of front)) before l
-  admits is = record {
-    seen = is.seen;
-    fronted = subst (λ (bs : List ℕ). IsAnswer bs (Whole is.seen))
-        (sym (laws.sides.plain l own).came ∙ ap (recv l) before_is ∙ came_without l before)
-        (header_told l (at_start g) (plain_of l front) (laws.plain l).verdicts is.seen is.told);
-    admitted = is.admitted;
-  }
+    pub admits : PlainIsAdmitted g front l → AdmitsPlain (held g (control_of front)) before l
+    admits is = record {
+      seen = is.seen;
+      fronted = subst (λ (bs : List ℕ). IsAnswer bs (Whole is.seen))
+          (sym (laws.sides.plain l own).came ∙ ap (recv l) before_is ∙ came_without l before)
+          (header_told l (at_start g) (plain_of l front) (laws.plain l).verdicts is.seen is.told);
+      admitted = is.admitted;
+    }

@@ -1,50 +1,48 @@
 -- Small traces don't meet the headline.
-use Rattle.std.proofs.Common.{◌≡◌, ◌⊎◌, ⊎_elim, ℕ, ◌==◌, ◌||◌, Bool, true, false, cond, List, [], ◌∷◌, ◌++◌, length, drop, map, Result, Ok, fold, refl, ap, sym, ◌∙◌, subst, arith}
+use Rattle.std.proofs.Common.{◌≡◌, ⊎_elim, ℕ, ◌==◌, ◌||◌, Bool, true, false, cond, List, [], ◌∷◌, ◌++◌, length, drop, map, Result, Ok, refl, ap, sym, ◌∙◌, subst, arith}
 use Rattle.std.specs.List.{flat_map, AllByRecursion}
 use Rattle.std.proofs.lemmas.Bool.{false≢true, eqb-true, eq-eqb}
 use Rattle.hb_base.specs.declared.door.Door.TheVariants as door
 use Rattle.hb_base.specs.declared.door.Why.TheVariants as whys
-use Rattle.hb_base.specs.declared.peer.Peer.{Peer}
-use Rattle.hb_base.specs.declared.target.Target.{Target}
 use Rattle.hb_disco.specs.Response.{response_of}
 use Rattle.hb_disco.specs.declared.response.Response.{Response}
 use Rattle.hb_disco.specs.declared.response.ResponseFault.{ResponseFault}
 use Rattle.hb_frames.specs.Frames.{Joins}
 use Rattle.hb_frames.specs.RawFrame.{RawFrame}
 use Rattle.hb_grpc.specs.Framed.{framed_of, framed_within}
-use Rattle.hb_held.specs.Held.{Resources}
 use Rattle.hb_kept.specs.Payloads.{payloads}
 use Rattle.hb_laws.proofs.Unheld.{nobody_admitted}
 use Rattle.hb_model.specs.Calls.{IsControl}
 use Rattle.hb_model.specs.Discovery.{longest_message}
 use Rattle.hb_model.specs.declared.config.NodeConfig.{NodeConfig}
 use Rattle.hb_outgoing.specs.Written.{begun_in}
-use Rattle.hb_proxy.specs.Held.{at_start}
-use Rattle.hb_proxy.specs.Owners.{Owner, nobody, inbound_link, owner, upstream_of}
+use Rattle.hb_proxy.specs.Owners.{nobody, inbound_link, upstream_of}
 use Rattle.hb_table.specs.Judgement.{judged}
 use Rattle.hb_table.specs.declared.judgement.Judged.TheVariants.{Unknown, Admitted}
 use Rattle.hb_world.specs.Trace.{recv}
 use Rattle.hb_world.specs.declared.entry.Entry.{Entry}
 use Rattle.hb_world.specs.declared.entry.Entry.TheVariants as e
 use Rattle.hb_headline.specs.Access.{peer_in, Admits, AreAdmitted}
-use Rattle.hb_headline.specs.Headline.{Headline}
 use Rattle.hb_headline.specs.Held.{Applied, AreRead, AreTold, PicksAny, made_by, on_link}
 use Rattle.hb_headline.specs.Refused.{SendsUnfronted, TunnelsUnfronted, InventsBack, SendsEarly, invented, InventsData, unasked, SendsUnasked, DialsTwice, DialsElsewhere, AdmitsElsewhere, AdmitsUntold, untold, AdmitsForged, unanswered, SendsUnborn, CutsUnadmitted}
-use Rattle.hb_headline.specs.Relay.{IsFront, data_with}
+use Rattle.hb_headline.specs.Relay.{data_with}
 use Rattle.hb_headline.proofs.OneFrame.{one_frame}
 use Rattle.hb_headline.proofs.OneTarget.{one_dial}
 
 pub sends_unfronted : SendsUnfronted
 sends_unfronted to byte more g met =
-    ⊎_elim (λ none. absurd (cc)) (λ is. let no = is.fronted.4 in absurd (cc)) ((met.prefix.plain (e.Accepted 1 door.Plain ∷ e.Dialled 2 to (whys.Plain 1) ∷ e.Went 2 (byte ∷ more) ∷ []) [] refl).up 1 2 refl)
+    let trace = e.Accepted 1 door.Plain ∷ e.Dialled 2 to (whys.Plain 1) ∷ e.Went 2 (byte ∷ more) ∷ [] in
+    ⊎_elim (λ none. absurd (cc)) (λ is. let no = is.fronted.4 in absurd (cc)) ((met.prefix.plain trace [] refl).up 1 2 refl)
 
 pub tunnels_unfronted : TunnelsUnfronted
 tunnels_unfronted to byte more g met =
-    ⊎_elim (λ none. absurd (cc)) (λ is. let no = is.fronted.4 in absurd (cc)) (met.prefix.up (e.Accepted 1 door.Inbound ∷ e.Dialled 2 to (whys.Upstream 1 1) ∷ e.Went 2 (byte ∷ more) ∷ []) [] refl 1 1 2 refl)
+    let trace = e.Accepted 1 door.Inbound ∷ e.Dialled 2 to (whys.Upstream 1 1) ∷ e.Went 2 (byte ∷ more) ∷ [] in
+    ⊎_elim (λ none. absurd (cc)) (λ is. let no = is.fronted.4 in absurd (cc)) (met.prefix.up trace [] refl 1 1 2 refl)
 
 pub invents_back : InventsBack
-invents_back to byte more g met = 
-    let front = (met.prefix.plain (e.Accepted 1 door.Plain ∷ e.Dialled 2 to (whys.Plain 1) ∷ e.Went 1 (byte ∷ more) ∷ []) [] refl).down 1 2 refl in
+invents_back to byte more g met =
+    let trace = e.Accepted 1 door.Plain ∷ e.Dialled 2 to (whys.Plain 1) ∷ e.Went 1 (byte ∷ more) ∷ [] in
+    let front = (met.prefix.plain trace [] refl).down 1 2 refl in
     let is = front.is in absurd (cc)
 
 pub sends_early : SendsEarly
@@ -112,7 +110,8 @@ admits_elsewhere held to came none is =
 pub admits_untold : AdmitsUntold
 admits_untold to came bytes g met =
     let before = untold to came in
-    let none = none_applied before (met.applied before) (λ d control. false≢true control) (met.held.told before (e.Went 2 bytes ∷ []) refl) in
+    let told = met.held.told before (e.Went 2 bytes ∷ []) refl in
+    let none = none_applied before (met.applied before) (λ d control. false≢true control) told in
     none_admitted g (met.applied before) before 1 1 2 none ((met.admitted before 2 bytes [] refl).up 1 1 refl)
 
 pub sends_unborn : SendsUnborn
@@ -125,7 +124,8 @@ cuts_unadmitted to came byte g met =
     let others = e.Went 1 (0 ∷ 0 ∷ 0 ∷ 0 ∷ 0 ∷ 1 ∷ byte ∷ []) ∷ [] in
     let down = met.prefix.down 1 refl in
     let one = one_frame (data_with byte) (met.frames 1) down.began in
-    let none = none_applied before (met.applied before) (λ d control. false≢true control) (met.held.told before (e.Went 1 cut ∷ others) refl) in
+    let told = met.held.told before (e.Went 1 cut ∷ others) refl in
+    let none = none_applied before (met.applied before) (λ d control. false≢true control) told in
     let begins = (met.admitted before 1 cut others refl).down refl in
     let first = subst (λ (fs : List RawFrame). AreAdmitted (made_by g (met.applied before)) before 1
     (drop (length (begun_in 0 fs)) (begun_in 3 fs))) one begins in

@@ -8,7 +8,6 @@ use Rattle.hb_captured.specs.Verdicts.{VerdictLaw}
 use Rattle.hb_front.specs.Header.{spelling}
 use Rattle.hb_front.specs.Reading.{Seen, IsAnswer, Whole}
 use Rattle.hb_held.specs.Held.{Resources}
-use Rattle.hb_kept.specs.Payloads.{Began}
 use Rattle.hb_laws.specs.Lawful.{Laws}
 use Rattle.hb_model.specs.declared.config.NodeConfig.{NodeConfig}
 use Rattle.hb_proxy.proofs.Owned.{all_owned}
@@ -16,11 +15,11 @@ use Rattle.hb_proxy.specs.Doors.{without_doors}
 use Rattle.hb_proxy.specs.Held.{at_start}
 use Rattle.hb_proxy.specs.Machine.{Machine}
 use Rattle.hb_proxy.specs.Runs.{StandsFor}
-use Rattle.hb_proxy.specs.Owners.{Owner, owner, upstream_of, relay_of, plain_link}
+use Rattle.hb_proxy.specs.Owners.{owner, relay_of, plain_link}
 use Rattle.hb_proxy.specs.Points.{Point, entries, plain_of}
 use Rattle.hb_world.specs.Trace.{recv, sent}
 use Rattle.hb_world.specs.declared.entry.Entry.{Entry}
-use Rattle.hb_headline.specs.Relay.{IsFront, IsFronted, IsBehindHeader, PlainRelays}
+use Rattle.hb_headline.specs.Relay.{IsFront, IsBehindHeader, PlainRelays}
 use Rattle.hb_laws.proofs.Doors.{came_without, went_without, owner_without}
 
 -- a header that stands in front of bytes stands in front of more
@@ -81,46 +80,46 @@ none_first (x ∷ xs) ys is = absurd (cc)
 -- AT A FRONT of the run, and of its trace
 module _ (g : NodeConfig) (x : Machine) (front : List Point) (run : StandsFor g x front) (before : List Entry)
     (before_is : entries front ≡ without_doors before) (laws : Laws g front)
-    where
-  module _ (l u : ℕ) (own : owner u before ≡ relay_of l) where
-    on_points : owner u (entries front) ≡ relay_of l
-    on_points = owner_is front before before_is u ∙ own
+  where
+    module _ (l u : ℕ) (own : owner u before ≡ relay_of l) where
+      on_points : owner u (entries front) ≡ relay_of l
+      on_points = owner_is front before before_is u ∙ own
 
-    -- the link of an upstream is a plain one: no fact of Lawful says so, but the run
-    is_plain : owner l (entries front) ≡ plain_link
-    is_plain = (all_owned g x front run).relay_over l u on_points
+      -- the link of an upstream is a plain one: no fact of Lawful says so, but the run
+      is_plain : owner l (entries front) ≡ plain_link
+      is_plain = (all_owned g x front run).relay_over l u on_points
 
-    plain_up : (o : Option Seen) → header_of (plain_of l front) ≡ o → (sent u before ≡ []) ⊎ IsBehindHeader before l (sent u before)
-    plain_up None is =
-        let ups = laws.relay.plain_ups l u on_points in
-        inl (sym (went_is front before before_is u) ∙ none_first (sent u (entries front)) ups.rest
-        (ap (λ (o : Option Seen). behind o (recv l (entries front))) (sym is) ∙ ups.front))
-    plain_up (Some seen) is =
-        let ups = laws.relay.plain_ups l u on_points in
-        let side = laws.sides.plain l is_plain in
-        let whole = header_told l (at_start g) (plain_of l front) (laws.plain l).verdicts seen is in
-        inr (record {
-          seen = seen;
-          fronted = subst (λ (bs : List ℕ). IsAnswer bs (Whole seen)) (sym side.came ∙ came_is front before before_is l) whole;
-          front = record {
-            rest = ups.rest;
-            is = ap (drop seen.length) (sym (came_is front before before_is l))
-                ∙ ap (λ (o : Option Seen). behind o (recv l (entries front))) (sym is) ∙ ups.front
-                ∙ ap (λ (bs : List ℕ). bs ++ ups.rest) (went_is front before before_is u);
-          };
-        })
+      plain_up : (o : Option Seen) → header_of (plain_of l front) ≡ o → (sent u before ≡ []) ⊎ IsBehindHeader before l (sent u before)
+      plain_up None is =
+          let ups = laws.relay.plain_ups l u on_points in
+          inl (sym (went_is front before before_is u) ∙ none_first (sent u (entries front)) ups.rest
+          (ap (λ (o : Option Seen). behind o (recv l (entries front))) (sym is) ∙ ups.front))
+      plain_up (Some seen) is =
+          let ups = laws.relay.plain_ups l u on_points in
+          let side = laws.sides.plain l is_plain in
+          let whole = header_told l (at_start g) (plain_of l front) (laws.plain l).verdicts seen is in
+          inr (record {
+            seen = seen;
+            fronted = subst (λ (bs : List ℕ). IsAnswer bs (Whole seen)) (sym side.came ∙ came_is front before before_is l) whole;
+            front = record {
+              rest = ups.rest;
+              is = ap (drop seen.length) (sym (came_is front before before_is l))
+                  ∙ ap (λ (o : Option Seen). behind o (recv l (entries front))) (sym is) ∙ ups.front
+                  ∙ ap (λ (bs : List ℕ). bs ++ ups.rest) (went_is front before before_is u);
+            };
+          })
 
-    plain_down : IsFront (sent l before) (recv u before)
-    plain_down =
-        let downs = laws.relay.plain_downs l u on_points in
-        record {
-          rest = downs.rest;
-          is = sym (came_is front before before_is u) ∙ downs.front
-              ∙ ap (λ (bs : List ℕ). bs ++ downs.rest) (went_is front before before_is l);
-        }
+      plain_down : IsFront (sent l before) (recv u before)
+      plain_down =
+          let downs = laws.relay.plain_downs l u on_points in
+          record {
+            rest = downs.rest;
+            is = sym (came_is front before before_is u) ∙ downs.front
+                ∙ ap (λ (bs : List ℕ). bs ++ downs.rest) (went_is front before before_is l);
+          }
 
-  pub relays_plain : PlainRelays before
-  relays_plain = record {
-    up = λ l u own. plain_up l u own (header_of (plain_of l front)) refl;
-    down = λ l u own. plain_down l u own;
-  }
+    pub relays_plain : PlainRelays before
+    relays_plain = record {
+      up = λ l u own. plain_up l u own (header_of (plain_of l front)) refl;
+      down = λ l u own. plain_down l u own;
+    }

@@ -1,5 +1,5 @@
 -- What goes up on a tunnel of a lawful trace is DATA that came on its stream.
-use Rattle.std.proofs.Common.{◌≡◌, ◌⊎◌, inl, inr, ℕ, ◌==◌, Bool, true, false, cond, List, [], ◌∷◌, ◌++◌, length, drop, Option, Some, None, fold, refl, ap, sym, ◌∙◌, subst}
+use Rattle.std.proofs.Common.{◌≡◌, ◌⊎◌, inl, inr, ℕ, List, [], ◌∷◌, ◌++◌, drop, Option, Some, None, refl, ap, sym, ◌∙◌, subst}
 use Rattle.std.proofs.lemmas.List.{append_assoc}
 use Rattle.hb_conn.specs.Connection.{fresh_server}
 use Rattle.hb_frames.specs.Frames.{Joins}
@@ -30,71 +30,71 @@ use Rattle.hb_headline.proofs.Shut.{front_told}
 -- AT A FRONT of the run, and of its trace
 module _ (g : NodeConfig) (x : Machine) (front : List Point) (run : StandsFor g x front) (before : List Entry)
     (before_is : entries front ≡ without_doors before) (laws : Laws g front) (l s u : ℕ) (own : owner u before ≡ upstream_of l s)
-    where
-  on_points : owner u (entries front) ≡ upstream_of l s
-  on_points = owner_is front before before_is u ∙ own
+  where
+    on_points : owner u (entries front) ≡ upstream_of l s
+    on_points = owner_is front before before_is u ∙ own
 
-  abbrev parts : List Part
-  parts = parts_of l front
+    abbrev parts : List Part
+    parts = parts_of l front
 
-  -- the link of an upstream is an inbound one: no fact of Lawful says so, but the run
-  is_inbound : owner l (entries front) ≡ inbound_link
-  is_inbound = (all_owned g x front run).over l s u on_points
+    -- the link of an upstream is an inbound one: no fact of Lawful says so, but the run
+    is_inbound : owner l (entries front) ≡ inbound_link
+    is_inbound = (all_owned g x front run).over l s u on_points
 
-  came_same : link_came parts ≡ recv l before
-  came_same = sym (laws.sides.link l is_inbound).came ∙ came_is front before before_is l
+    came_same : link_came parts ≡ recv l before
+    came_same = sym (laws.sides.link l is_inbound).came ∙ came_is front before before_is l
 
-  -- the connection's frames
-  joined : Joins (frames_got (moves parts))
-      (laws.links l).connection.conn.receiver.reader.held (drop 24 (behind_front (front_size parts) (recv l before)))
-  joined =
-      subst (λ (bs : List ℕ). Joins (frames_got (moves parts))
-      (laws.links l).connection.conn.receiver.reader.held (drop 24 (behind_front (front_size parts) bs)))
-      came_same (laws.links l).connection.stands.came.frames_are
+    -- the connection's frames
+    joined : Joins (frames_got (moves parts))
+        (laws.links l).connection.conn.receiver.reader.held (drop 24 (behind_front (front_size parts) (recv l before)))
+    joined =
+        subst (λ (bs : List ℕ). Joins (frames_got (moves parts))
+        (laws.links l).connection.conn.receiver.reader.held (drop 24 (behind_front (front_size parts) bs)))
+        came_same (laws.links l).connection.stands.came.frames_are
 
-  told : IsFront (stream_came s parts) (data_on s (frames_got (moves parts)))
-  told =
-      front_told s Server fresh_server.receiver.core (moves parts) _ (lives_new Server)
-      (laws.links l).connection.stands.runs
+    told : IsFront (stream_came s parts) (data_on s (frames_got (moves parts)))
+    told =
+        front_told s Server fresh_server.receiver.core (moves parts) _ (lives_new Server)
+        (laws.links l).connection.stands.runs
 
-  fronted_so : (seen : Seen) → header_of parts ≡ Some seen → IsAnswer (recv l before) (Whole seen)
-  fronted_so seen is =
-      subst (λ (bs : List ℕ). IsAnswer bs (Whole seen)) came_same
-      (header_stands l (at_start g) (local x l) parts (links_run g x front l run) seen is)
+    fronted_so : (seen : Seen) → header_of parts ≡ Some seen → IsAnswer (recv l before) (Whole seen)
+    fronted_so seen is =
+        subst (λ (bs : List ℕ). IsAnswer bs (Whole seen)) came_same
+        (header_stands l (at_start g) (local x l) parts (links_run g x front l run) seen is)
 
-  sent_front : IsFront (sent u before) (data_on s (frames_got (moves parts)))
-  sent_front =
-      let ups = laws.relay.ups l s u on_points in
-      record {
-        rest = ups.rest ++ told.rest;
-        is = told.is
-            ∙ ap (λ (bs : List ℕ). bs ++ told.rest) (ups.front ∙ ap (λ (bs : List ℕ). bs ++ ups.rest) (went_is front before before_is u))
-            ∙ append_assoc (sent u before) ups.rest told.rest;
-      }
+    sent_front : IsFront (sent u before) (data_on s (frames_got (moves parts)))
+    sent_front =
+        let ups = laws.relay.ups l s u on_points in
+        record {
+          rest = ups.rest ++ told.rest;
+          is = told.is
+              ∙ ap (λ (bs : List ℕ). bs ++ told.rest) (ups.front ∙ ap (λ (bs : List ℕ). bs ++ ups.rest) (went_is front before before_is u))
+              ∙ append_assoc (sent u before) ups.rest told.rest;
+        }
 
-  -- without a header nothing came of the connection
-  no_frames : (fs : List RawFrame) (rest : List ℕ) → Joins fs rest [] → fs ≡ []
-  no_frames [] rest join = refl
-  no_frames (f ∷ fs) rest join = absurd (cc)
+    -- without a header nothing came of the connection
+    no_frames : (fs : List RawFrame) (rest : List ℕ) → Joins fs rest [] → fs ≡ []
+    no_frames [] rest join = refl
+    no_frames (f ∷ fs) rest join = absurd (cc)
 
-  by : (o : Option Seen) → header_of parts ≡ o → (sent u before ≡ []) ⊎ TunnelRelaysUp before l s u
-  by None is =
-      let size : front_size parts ≡ None = size_told parts None ∙ ap size_in is in
-      let none = no_frames (frames_got (moves parts)) _
-      (subst (λ (n : Option ℕ). Joins (frames_got (moves parts))
-      (laws.links l).connection.conn.receiver.reader.held (drop 24 (behind_front n (recv l before)))) size joined) in
-      inl (none_first (sent u before) sent_front.rest (sym (ap (data_on s) none) ∙ sent_front.is))
-  by (Some seen) is =
-      let size : front_size parts ≡ Some seen.length = size_told parts None ∙ ap size_in is in
-      inr (record {
-        seen = seen;
-        fronted = fronted_so seen is;
-        frames = frames_got (moves parts);
-        partial = (laws.links l).connection.conn.receiver.reader.held;
-        framed = subst (λ (n : Option ℕ). Joins (frames_got (moves parts))
-            (laws.links l).connection.conn.receiver.reader.held (drop 24 (behind_front n (recv l before)))) size joined;
-        front = sent_front;
-      })
+    by : (o : Option Seen) → header_of parts ≡ o → (sent u before ≡ []) ⊎ TunnelRelaysUp before l s u
+    by None is =
+        let size : front_size parts ≡ None = size_told parts None ∙ ap size_in is in
+        let none = no_frames (frames_got (moves parts)) _
+        (subst (λ (n : Option ℕ). Joins (frames_got (moves parts))
+        (laws.links l).connection.conn.receiver.reader.held (drop 24 (behind_front n (recv l before)))) size joined) in
+        inl (none_first (sent u before) sent_front.rest (sym (ap (data_on s) none) ∙ sent_front.is))
+    by (Some seen) is =
+        let size : front_size parts ≡ Some seen.length = size_told parts None ∙ ap size_in is in
+        inr (record {
+          seen = seen;
+          fronted = fronted_so seen is;
+          frames = frames_got (moves parts);
+          partial = (laws.links l).connection.conn.receiver.reader.held;
+          framed = subst (λ (n : Option ℕ). Joins (frames_got (moves parts))
+              (laws.links l).connection.conn.receiver.reader.held (drop 24 (behind_front n (recv l before)))) size joined;
+          front = sent_front;
+        })
 
-  pub relays_up : (sent u before ≡ []) ⊎ TunnelRelaysUp before l s u
-  relays_up = by (header_of (parts_of l front)) refl
+    pub relays_up : (sent u before ≡ []) ⊎ TunnelRelaysUp before l s u
+    relays_up = by (header_of (parts_of l front)) refl

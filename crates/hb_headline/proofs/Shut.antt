@@ -14,7 +14,6 @@ use Rattle.hb_conn.specs.Handling.{Handles, HandlesBy}
 use Rattle.hb_conn.specs.Outcome.{Outcome, outcome, Gives}
 use Rattle.hb_conn.specs.Payload.{count_put}
 use Rattle.hb_conn.specs.Places.{is_misplaced}
-use Rattle.hb_conn.specs.Receiving.{pauses}
 use Rattle.hb_conn.specs.declared.found.Found.{Found}
 use Rattle.hb_conn.specs.declared.found.Found.TheVariants as found
 use Rattle.hb_conn.specs.declared.glance.Glance.{Glance}
@@ -30,7 +29,7 @@ use Rattle.hb_history.proofs.Glanced.{data_are}
 use Rattle.hb_history.proofs.Handled.{Grows}
 use Rattle.hb_history.proofs.Lives.{Moved, used, Lives, lives_runs}
 use Rattle.hb_history.proofs.Parts.{Amid, calm, Keeps, Puts, PutsAck, Resizes}
-use Rattle.hb_history.specs.Points.{Point, Move, got, refused, misbegan, opened, answered, ended, reset, credited, put, wrote, point, After, Runs, got_by, frames_got}
+use Rattle.hb_history.specs.Points.{Point, Move, got, point, After, Runs, got_by, frames_got}
 use Rattle.hb_inbound.specs.Sides.{data_by, data_told}
 use Rattle.hb_kept.proofs.Rises.{frame_rises}
 use Rattle.hb_kept.proofs.Sides.{On, handles_on}
@@ -179,7 +178,8 @@ module _ (s : ℕ) where
   stays c m new told h is = move_keeps Dead keeps puts resizes acks grows (λ d n within h. h) c m new told h is
 
   -- DATA IS TOLD only where the peer's side is open
-  open_by : (own peer : Bool) → data_answer s (cond (own && peer) Open (cond peer HalfClosedLocal (cond own HalfClosedRemote Closed))) ≡ Ok step.Goes
+  open_by : (own peer : Bool)
+      → data_answer s (cond (own && peer) Open (cond peer HalfClosedLocal (cond own HalfClosedRemote Closed))) ≡ Ok step.Goes
       → peer ≡ true
   open_by true true is = refl
   open_by false true is = refl
@@ -289,7 +289,8 @@ module _ (s : ℕ) where
   low role st None moves is idle =
       let below = low_by (is_even s) (nat_lt st.highest s) (is_among st.resets s) idle in grind (arith, nat_tests, below)
 
-  peer_by : (own peer : Bool) → (sides_of (cond (own && peer) Open (cond peer HalfClosedLocal (cond own HalfClosedRemote Closed)))).peer ≡ peer
+  peer_by : (own peer : Bool)
+      → (sides_of (cond (own && peer) Open (cond peer HalfClosedLocal (cond own HalfClosedRemote Closed)))).peer ≡ peer
   peer_by true true = refl
   peer_by true false = refl
   peer_by false true = refl
@@ -322,7 +323,8 @@ module _ (s : ℕ) where
   dead_now role c f new told lives kind stream untold after =
       dead_by c new told untold
       (λ used. frame_rises s c (glance_at f) (lent_of f) new told (low role c.streams (get c.streams.active s) lives.0 refl used) after.1)
-      (handles_by c (is_misplaced c (glance.Data s (length f.payload) (has_flag f end_stream_flag))) (length f.payload) (has_flag f end_stream_flag) (lent_of f) new told handled)
+      (handles_by c (is_misplaced c (glance.Data s (length f.payload) (has_flag f end_stream_flag))) (length f.payload)
+      (has_flag f end_stream_flag) (lent_of f) new told handled)
       (handles_on (is_misplaced c (glance_at f)) c (glance_at f) (lent_of f) new told after.1)
     where
       handled : Handles c (glance.Data s (length f.payload) (has_flag f end_stream_flag)) (lent_of f) new told
@@ -382,7 +384,9 @@ module _ (s : ℕ) where
       chunk f k end false is after more =
           let of = chunk_of_frame c f (lent_of f) runs.0 k end after.1 in
           nothing_of f (f.kind == data_kind && f.stream == s) refl (data_on s (frames_got ps)) (flat_map (data_by s) ps)
-          (λ both. absurd (false≢true (sym is ∙ ap (λ (n : ℕ). n == s) (sym of.1) ∙ (and_parts (f.kind == data_kind) (f.stream == s) both).1)))
+          (λ both.
+          let on = (and_parts (f.kind == data_kind) (f.stream == s) both).1 in
+          absurd (false≢true (sym is ∙ ap (λ (n : ℕ). n == s) (sym of.1) ∙ on)))
           more
 
       other : (f : RawFrame) (told : Found) → IsUntold told → After c (got f) runs.0 told
@@ -391,9 +395,9 @@ module _ (s : ℕ) where
       other f told untold after more =
           nothing_of f (f.kind == data_kind && f.stream == s) refl (data_on s (frames_got ps)) (flat_map (data_by s) ps)
           (λ both.
-              let is = and_parts (f.kind == data_kind) (f.stream == s) both in
-              none_told runs.0 ps new
-              (dead_now role c f runs.0 told lives (eqb-true f.kind data_kind is.0) (eqb-true f.stream s is.1) untold after) runs.2)
+          let is = and_parts (f.kind == data_kind) (f.stream == s) both in
+          none_told runs.0 ps new
+          (dead_now role c f runs.0 told lives (eqb-true f.kind data_kind is.0) (eqb-true f.stream s is.1) untold after) runs.2)
           more
 
       by : (m : Move) (told : Found) → After c m runs.0 told → IsFront (flat_map (data_by s) ps) (data_on s (frames_got ps))

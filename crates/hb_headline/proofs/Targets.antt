@@ -1,5 +1,5 @@
 -- Where the upstream of each tunnel of a run was dialled: there where its tunnel's target is.
-use Rattle.std.proofs.Common.{◌≡◌, ◌⊎◌, inl, inr, ⊎_elim, ℕ, ◌<◌, List, [], ◌∷◌, ◌++◌, refl, ap, sym, ◌∙◌, subst, arith}
+use Rattle.std.proofs.Common.{◌≡◌, inl, inr, ℕ, ◌<◌, List, [], ◌∷◌, ◌++◌, refl, ap, sym, ◌∙◌, subst, arith}
 use Rattle.std.proofs.lemmas.List.{append_assoc}
 use Rattle.hb_base.specs.declared.door.Why.TheVariants as whys
 use Rattle.hb_base.specs.declared.target.Target.{Target}
@@ -11,11 +11,11 @@ use Rattle.hb_model.proofs.Grown.{one_more}
 use Rattle.hb_model.specs.declared.config.NodeConfig.{NodeConfig}
 use Rattle.hb_proxy.specs.Machine.{Machine, local}
 use Rattle.hb_proxy.specs.Points.{Point, entry_in, entries}
-use Rattle.hb_proxy.specs.Runs.{Steps, StandsFor, begins, goes_on}
+use Rattle.hb_proxy.specs.Runs.{StandsFor, begins, goes_on}
 use Rattle.hb_world.specs.declared.entry.Entry.{Entry}
 use Rattle.hb_world.specs.declared.entry.Entry.TheVariants as e
 use Rattle.hb_headline.specs.Dials.{IsDialled}
-use Rattle.hb_headline.proofs.LinkSteps.{StepsBy, LinkGoes, link_goes}
+use Rattle.hb_headline.proofs.LinkSteps.{LinkGoes, link_goes}
 use Rattle.hb_headline.proofs.Tunnels.{Aims, Same, IsDial, Makes, makes}
 
 module _ (s : ℕ) where

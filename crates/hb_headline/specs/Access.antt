@@ -1,5 +1,5 @@
 -- No byte goes unless what is held then admits the peer: said of a trace.
-use Rattle.std.specs.Prelude.{◌≡◌, ◌≢◌, ℕ, ◌==◌, if◌then◌else◌, List, ◌∷◌, ◌++◌, fold, true, None}
+use Rattle.std.specs.Prelude.{◌≡◌, ◌≢◌, ℕ, ◌==◌, if◌then◌else◌, List, fold, true, None}
 use Rattle.std.specs.List.{AllByRecursion}
 use Rattle.hb_base.specs.declared.door.Door.{Door}
 use Rattle.hb_base.specs.declared.door.Door.TheVariants as door

@@ -1,6 +1,6 @@
 -- Small traces that don't meet the headline. Link 1 is accepted in them, and link 2 is its upstream, but where the control plane is
 -- dialled first.
-use Rattle.std.specs.Prelude.{◌≡◌, ◌≢◌, ℕ, List, [], ◌∷◌, ◌++◌}
+use Rattle.std.specs.Prelude.{◌≢◌, ℕ, List, [], ◌∷◌, ◌++◌}
 use Rattle.hb_base.specs.declared.door.Door.TheVariants as door
 use Rattle.hb_base.specs.declared.door.Why.TheVariants as whys
 use Rattle.hb_base.specs.declared.peer.Peer.{Peer}

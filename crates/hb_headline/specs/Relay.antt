@@ -63,9 +63,9 @@ abbrev pub begin_with : List ℕ → ℕ → List RawFrame → List Entry → Li
 begin_with bytes l frames before =
     drop (length (begun_on l frames before)) (begun_in (length (sent l before) + length bytes) frames)
 
--- What goes on an inbound link is these frames, one list for the link's whole life and for all its streams, of which the last may be in part.
--- Behind each front of the trace, the DATA of a stream in those that have begun, a last one counted whole, is a front of what came by
--- then from the stream's upstream; and there is none on a stream that has no upstream then
+-- What goes on an inbound link is these frames, one list for the link's whole life and for all its streams, of which the last may be in
+-- part. Behind each front of the trace, the DATA of a stream in those that have begun, a last one counted whole, is a front of what came
+-- by then from the stream's upstream; and there is none on a stream that has no upstream then
 pub record LinkRelaysDown (trace : List Entry) (l : ℕ) (frames : List RawFrame) : Type 0 where
   pub began : Began (sent l trace) frames
   pub fronts : (before after : List Entry) → trace ≡ before ++ after → (s u : ℕ) → owner u before ≡ upstream_of l s

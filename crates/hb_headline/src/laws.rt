@@ -3,7 +3,8 @@
 ghost use Rattle.hb_headline.specs.Good.{LifeMeetsTheHeadline};
 ghost use Rattle.hb_headline.specs.Headline.{LawfulKeepsTheHeadline};
 ghost use Rattle.hb_headline.specs.Refused.{SendsUnfronted, TunnelsUnfronted, InventsBack, SendsEarly, InventsData};
-ghost use Rattle.hb_headline.specs.Refused.{SendsUnasked, DialsTwice, DialsElsewhere, AdmitsElsewhere, AdmitsUntold, AdmitsForged, SendsUnborn, CutsUnadmitted};
+ghost use Rattle.hb_headline.specs.Refused.{SendsUnasked, DialsTwice, DialsElsewhere, AdmitsElsewhere, AdmitsUntold, AdmitsForged};
+ghost use Rattle.hb_headline.specs.Refused.{SendsUnborn, CutsUnadmitted};
 ghost use Rattle.hb_headline.specs.Relay.{BeganIsNotOne};
 
 /// Each lawful trace meets the headline.
