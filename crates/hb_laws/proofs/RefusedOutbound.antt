@@ -1,10 +1,11 @@
 -- Small wrong traces of links of the outbound door and of their upstreams are refused, and places that no lawful trace has.
-use Rattle.std.proofs.Common.{◌≡◌, ℕ, false, cond, List, [], ◌∷◌, ◌++◌, Some, None, refl, ap, sym, ◌∙◌, subst, arith}
+use Rattle.std.proofs.Common.{◌≡◌, ℕ, false, cond, List, [], ◌∷◌, ◌++◌, Some, None, refl, ap, sym, ◌∙◌, subst}
 use Rattle.std.specs.List.{list_any}
 use Rattle.std.proofs.lemmas.List.Concat.{flat_map-append}
 use Rattle.hb_base.specs.declared.cause.Cause.TheVariants as cause
 use Rattle.hb_base.specs.declared.door.Door.{Door}
 use Rattle.hb_base.specs.declared.door.Door.TheVariants as door
+use Rattle.hb_base.specs.declared.door.Why.{Why}
 use Rattle.hb_base.specs.declared.door.Why.TheVariants as whys
 use Rattle.hb_base.specs.declared.target.Target.{Target}
 use Rattle.hb_captured.proofs.Stages.{course_one}
@@ -24,19 +25,19 @@ use Rattle.hb_model.specs.Messages.{held}
 use Rattle.hb_model.specs.Point as point
 use Rattle.hb_model.specs.declared.config.NodeConfig.{NodeConfig}
 use Rattle.hb_proxy.specs.Held.{at_start}
-use Rattle.hb_proxy.specs.Owners.{owner, UpstreamLaw}
+use Rattle.hb_proxy.specs.Owners.{owner, relay_of, dialled_for}
 use Rattle.hb_proxy.specs.Points.{Point, of_control, entry_in, entries, control_of, plain_in, plain_of}
 use Rattle.hb_world.specs.declared.entry.Entry.{Entry}
 use Rattle.hb_world.specs.declared.entry.Entry.TheVariants as e
 use Rattle.hb_laws.specs.Lawful.{Lawful}
 use Rattle.hb_laws.specs.Refused.{dials, fails}
-use Rattle.hb_laws.specs.RefusedOutbound.{accepts_outbound, DialsAsPlain, DialsAsDirect, DialsDirectTwice, DialsUntold, RelaysUntold, IsAsked, DialsUnrouted, DialsAstray, ClosesUpdated, ClosesRevoked}
+use Rattle.hb_laws.specs.RefusedOutbound.{accepts_outbound, DialsAsPlain, DialsAsDirect, DialsUntold, RelaysUntold, IsAsked, DialsUnrouted, DialsAstray, ClosesUpdated, ClosesRevoked}
 use Rattle.hb_laws.specs.RefusedGateways.{DialsRound}
-use Rattle.hb_laws.specs.RefusedPlain.{accepts_plain}
+use Rattle.hb_laws.specs.RefusedPlain.{accepts_plain, DialsRelayUntold}
 use Rattle.hb_laws.specs.RefusedTunnels.{RefusedAt}
 use Rattle.hb_laws.proofs.Asked.{Answered, asked_there}
 use Rattle.hb_laws.proofs.BirthDoor.{door_at}
-use Rattle.hb_laws.proofs.Lawful.{goes_at, laws_of}
+use Rattle.hb_laws.proofs.Lawful.{goes_at}
 use Rattle.hb_laws.proofs.Places.{place, further, straight_why}
 use Rattle.hb_laws.proofs.PlainLinks.{none_revokes, outbound_unrevoked}
 use Rattle.hb_laws.proofs.RefusedPlain.{birth_door, dial_law, answered, close_at}
@@ -64,11 +65,6 @@ dials_as_direct to came g h =
     let no : whys.Direct 2 ≡ whys.Plain 2 =
     law.dial.for_it ∙ straight_why law.dial.aim _ 2 law.straight ∙ ap (λ (d : Door). why_at d 2) at in
     cc
-
-pub dials_direct_twice : DialsDirectTwice
-dials_direct_twice to other first second one two g h =
-    let law = subst UpstreamLaw (sym h.trace_is) (laws_of g _ h).upstreams in
-    (let same : 3 ≡ 4 = law.relays 2 3 4 one two in absurd (omega (arith, same)))
 
 -- before all was told each header is refused
 unsynced : (g : NodeConfig) (d : Door) (routing : Routing) (seen : Seen) → answer_on d (at_start g) routing seen ≡ refused_with 503
@@ -100,24 +96,29 @@ never_aimed g trace h front p rest are l aim there none =
     (λ k. none_before k front there.front there.p there.rest there.points_are (none k)))
     there.answered
 
--- and link 1 is never dialled there
-never_dialled : (g : NodeConfig) (trace before : List Entry) (to : Target) (after : List Entry) → (h : Lawful g trace)
-    → entries h.points ≡ before ++ e.Dialled 2 to (whys.Direct 1) ∷ after → ((l : ℕ) → list_any (is_control_of l) before ≡ false) → ⊥
-never_dialled g trace before to after h is none =
-    let s = place h.points before (e.Dialled 2 to (whys.Direct 1)) after is in
-    let law = dial_law g trace h s.front s.p s.rest s.points_are 1 2 to (whys.Direct 1) refl s.is in
+-- and no upstream of link 1 is dialled there
+never_dialled : (g : NodeConfig) (trace before : List Entry) (to : Target) (why : Why) (after : List Entry) → dialled_for why ≡ relay_of 1
+    → (h : Lawful g trace) → entries h.points ≡ before ++ e.Dialled 2 to why ∷ after
+    → ((l : ℕ) → list_any (is_control_of l) before ≡ false) → ⊥
+never_dialled g trace before to why after for_it h is none =
+    let s = place h.points before (e.Dialled 2 to why) after is in
+    let law = dial_law g trace h s.front s.p s.rest s.points_are 1 2 to why for_it s.is in
     never_aimed g trace h s.front s.p s.rest s.points_are 1 law.dial.aim
     (answered g trace h s.front s.p s.rest s.points_are 1 law.dial.aim law.dial.asked)
     (λ l. ap (list_any (is_control_of l)) s.before_is ∙ none l)
 
 pub dials_untold : DialsUntold
 dials_untold to came g h =
-    never_dialled g _ (fails g ∷ e.Accepted 1 door.Outbound ∷ e.Came 1 came ∷ []) to [] h (sym h.trace_is) (λ l. refl)
+    never_dialled g _ (fails g ∷ e.Accepted 1 door.Outbound ∷ e.Came 1 came ∷ []) to (whys.Direct 1) [] refl h (sym h.trace_is) (λ l. refl)
 
 pub relays_untold : RelaysUntold
 relays_untold to came bytes g h =
-    never_dialled g _ (fails g ∷ e.Accepted 1 door.Outbound ∷ e.Came 1 came ∷ []) to (e.Opened 2 ∷ e.Went 2 bytes ∷ []) h
-    (sym h.trace_is) (λ l. refl)
+    never_dialled g _ (fails g ∷ e.Accepted 1 door.Outbound ∷ e.Came 1 came ∷ []) to (whys.Direct 1) (e.Opened 2 ∷ e.Went 2 bytes ∷ [])
+    refl h (sym h.trace_is) (λ l. refl)
+
+pub dials_relay_untold : DialsRelayUntold
+dials_relay_untold to came g h =
+    never_dialled g _ (fails g ∷ e.Accepted 1 door.Plain ∷ e.Came 1 came ∷ []) to (whys.Plain 1) [] refl h (sym h.trace_is) (λ l. refl)
 
 -- PLACES
 

@@ -2,7 +2,7 @@
 use Rattle.std.proofs.Common.{◌≡◌, ◌≢◌, ◌⊎◌, inl, inr, ⊎_elim, ℕ, ◌+◌, ◌<◌, ◌≤◌, ◌==◌, ◌||◌, Bool, true, false, cond, List, [], ◌∷◌, ◌++◌, length, Option, Some, None, refl, ap, ap₂, sym, ◌∙◌, subst, arith, length-append, length-drop}
 use Rattle.std.specs.List.{list_any}
 use Rattle.std.proofs.lemmas.Bool.{both_ways, false≢true}
-use Rattle.std.proofs.lemmas.List.{append-nil, append_assoc}
+use Rattle.std.proofs.lemmas.List.{append_assoc}
 use Rattle.std.proofs.lemmas.List.Sums.{fold-append}
 use Rattle.hb_base.specs.declared.cause.Cause.{Cause}
 use Rattle.hb_base.specs.declared.cause.Cause.TheVariants as cause
@@ -18,16 +18,14 @@ use Rattle.hb_captured.specs.Captured.{peer_in, judges}
 use Rattle.hb_captured.specs.Ends.{GoesOn, EndsAt}
 use Rattle.hb_captured.specs.Part as captured
 use Rattle.hb_captured.specs.Part.{Part}
-use Rattle.hb_captured.specs.Relay as plain_relay
 use Rattle.hb_captured.specs.Relay.{RelaysAt}
 use Rattle.hb_captured.specs.Sides as plain
-use Rattle.hb_captured.specs.Sides.{Course, pending, lives, over, ends_judged, ends_at, course_of, door_of, header_of, header_by, aim_of, raw_came, link_came, link_went, up_came, up_went, came_in, went_in, up_came_in, up_went_in, judged_in, is_close, on_link, was_on_link, up_of, up_in}
+use Rattle.hb_captured.specs.Sides.{Course, pending, lives, over, ends_judged, ends_at, course_of, door_of, header_of, aim_of, raw_came, judged_in, is_close, on_link, was_on_link, up_of, up_in}
 use Rattle.hb_captured.specs.Verdicts.{VerdictAt, IsUpstreamOf}
 use Rattle.hb_front.specs.Reading.{Seen}
 use Rattle.hb_held.specs.Held.{Resources}
 use Rattle.hb_held.specs.Outcome.{after_response}
 use Rattle.hb_model.proofs.Grown.{one_more}
-use Rattle.hb_model.specs.Calls.{is_control_of}
 use Rattle.hb_model.specs.Messages.{held}
 use Rattle.hb_model.specs.Point as point
 use Rattle.hb_model.specs.declared.config.NodeConfig.{NodeConfig}
@@ -37,7 +35,7 @@ use Rattle.hb_proxy.proofs.Plain.{plain_runs}
 use Rattle.hb_proxy.specs.Access.{PlainIsAdmitted}
 use Rattle.hb_proxy.specs.Held.{at_start}
 use Rattle.hb_proxy.specs.Machine.{plain_local}
-use Rattle.hb_proxy.specs.Owners.{Owner, plain_link, relay_of, dialled_for, owner, link_of, UpstreamLaw}
+use Rattle.hb_proxy.specs.Owners.{Owner, plain_link, relay_of, dialled_for, owner, link_of}
 use Rattle.hb_proxy.specs.Points.{Point, of_control, of_plain, entry_in, entries, control_of, plain_in, plain_of}
 use Rattle.hb_proxy.specs.Relay.{came_behind}
 use Rattle.hb_proxy.specs.Sides.{PlainSide, RelaySide}
@@ -52,21 +50,19 @@ use Rattle.hb_world.specs.Trace.{recv, sent}
 use Rattle.hb_world.specs.declared.entry.Entry.{Entry}
 use Rattle.hb_world.specs.declared.entry.Entry.TheVariants as e
 use Rattle.hb_laws.specs.Lawful.{Lawful}
-use Rattle.hb_laws.specs.Refused.{dials, fails, waits}
-use Rattle.hb_laws.specs.RefusedPlain.{accepts_plain, ComesUndialled, GoesUndialled, DialsRelayTwice, is_failure, ClosesHealthyPlain, ClosesPlainForSecond, RelaysUnheld, RelaysBackUnheld, SendsHeader, InventsBack, ChangesBack, AnswersItself, IsOf, RelaysDenied, RelaysUncome, RelaysBackUncome, DialsAside, ShutsEarly, ShutsBackEarly, KeepsEndedPlain, KeepsRevokedPlain, ClosesPlainForAnother, ClosesLivePlain}
+use Rattle.hb_laws.specs.Refused.{dials, waits}
+use Rattle.hb_laws.specs.RefusedPlain.{accepts_plain, ComesUndialled, GoesUndialled, is_failure, ClosesHealthyPlain, ClosesPlainForSecond, SendsHeader, AnswersItself, IsOf, RelaysDenied, DialsAside, ShutsEarly, ShutsBackEarly, KeepsEndedPlain, KeepsRevokedPlain, ClosesPlainForAnother, ClosesLivePlain}
 use Rattle.hb_laws.specs.RefusedTunnels.{RefusedAt}
 use Rattle.hb_laws.proofs.Asked.{Answered, answers, unasked}
 use Rattle.hb_laws.proofs.BirthDoor.{door_at, door_told}
-use Rattle.hb_laws.proofs.Bytes.{not_more}
 use Rattle.hb_laws.proofs.Closing.{close_place}
 use Rattle.hb_laws.proofs.Doors.{owner_without, came_without, went_without}
 use Rattle.hb_laws.proofs.Lawful.{goes_at, own_in, laws_of}
 use Rattle.hb_laws.proofs.Living.{all_closed, plain_lives, relay_lives}
-use Rattle.hb_laws.proofs.Places.{DialOf, place, straight_why, dial_point, of_plain_link, of_relay}
+use Rattle.hb_laws.proofs.Places.{DialOf, straight_why, dial_point, of_plain_link, of_relay}
 use Rattle.hb_laws.proofs.PlainLinks.{fails_call, none_fails, ends_unfailed, header_len}
 use Rattle.hb_laws.proofs.RefusedLinks.{unborn}
 use Rattle.hb_laws.proofs.Runs.{front_runs}
-use Rattle.hb_laws.proofs.Unheld.{none_admitted}
 
 -- BIRTHS
 
@@ -75,11 +71,6 @@ comes_undialled bytes g h = unborn g _ (dials g ∷ accepts_plain ∷ []) (e.Cam
 
 pub goes_undialled : GoesUndialled
 goes_undialled bytes g h = unborn g _ (dials g ∷ accepts_plain ∷ []) (e.Went 3 bytes) 3 h (sym h.trace_is) refl refl
-
-pub dials_relay_twice : DialsRelayTwice
-dials_relay_twice to other g h =
-    let law = subst UpstreamLaw (sym h.trace_is) (laws_of g _ h).upstreams in
-    (let same : 3 ≡ 4 = law.relays 2 3 4 refl refl in absurd (omega (arith, same)))
 
 -- CLOSES
 
@@ -113,28 +104,6 @@ pub birth_door : (g : NodeConfig) (trace : List Entry) → (h : Lawful g trace) 
 birth_door g trace h before p behind are l mine =
     let at = goes_at g trace h before p behind are in door_told l g at.machine before at.run mine
 
-pub relays_unheld : RelaysUnheld
-relays_unheld to came bytes g h =
-    let goes = e.Went 2 bytes in
-    let before = fails g ∷ e.Accepted 1 door.Plain ∷ e.Came 1 came ∷ e.Dialled 2 to (whys.Plain 1) ∷ e.Opened 2 ∷ [] in
-    let s = place h.points before goes [] (sym h.trace_is) in
-    let at = birth_door g _ h s.front s.p s.rest s.points_are 1 (ap (owner 1) s.before_is) ∙ ap (door_at 1) s.before_is in
-    let is : PlainIsAdmitted g s.front 1 =
-    (h.access s.front s.p s.rest s.points_are goes 2 s.is refl).relay 1 (ap (owner 2) s.before_is) (ap judges at) in
-    none_admitted g _ h s.front (s.p ∷ s.rest) s.points_are (λ l. ap (list_any (is_control_of l)) s.before_is) (peer_in is.seen)
-    is.seen.destination is.admitted
-
-pub relays_back_unheld : RelaysBackUnheld
-relays_back_unheld to came back bytes g h =
-    let goes = e.Went 1 bytes in
-    let before = fails g ∷ e.Accepted 1 door.Plain ∷ e.Came 1 came ∷ e.Dialled 2 to (whys.Plain 1) ∷ e.Opened 2 ∷ e.Came 2 back ∷ [] in
-    let s = place h.points before goes [] (sym h.trace_is) in
-    let at = birth_door g _ h s.front s.p s.rest s.points_are 1 (ap (owner 1) s.before_is) ∙ ap (door_at 1) s.before_is in
-    let is : PlainIsAdmitted g s.front 1 =
-    (h.access s.front s.p s.rest s.points_are goes 1 s.is refl).plain (ap (owner 1) s.before_is) (ap judges at) in
-    none_admitted g _ h s.front (s.p ∷ s.rest) s.points_are (λ l. ap (list_any (is_control_of l)) s.before_is) (peer_in is.seen)
-    is.seen.destination is.admitted
-
 -- what went to an upstream came behind a header
 within_behind : (told : Option Seen) (came went rest : List ℕ) → ((seen : Seen) → told ≡ Some seen → 16 ≤ seen.length)
     → plain.behind told came ≡ went ++ rest → 0 < length went → 16 + length went ≤ length came
@@ -160,20 +129,6 @@ sends_header g trace l u h owned some more =
     (λ seen told. header_len l (at_start g) (plain_local h.machine l) (plain_of l h.points) seen (plain_runs g h.machine h.points l h.run)
     told) law.front (omega (arith, some, went)) in
     absurd (omega (arith, more, went, came, within))
-
-pub invents_back : InventsBack
-invents_back to came more byte g h =
-    let law = (laws_of g _ h).relay.plain_downs 2 3 (ap (owner 3) (sym h.trace_is)) in
-    let none : [] ≡ byte ∷ ((more ++ []) ++ law.rest) =
-    ap (recv 3) h.trace_is ∙ law.front ∙ ap (λ (bs : List ℕ). bs ++ law.rest) (ap (sent 2) (sym h.trace_is)) in
-    cc
-
-pub changes_back : ChangesBack
-changes_back to came byte other apart g h =
-    let law = (laws_of g _ h).relay.plain_downs 2 3 (ap (owner 3) (sym h.trace_is)) in
-    let same : byte ∷ [] ≡ (other ∷ []) ++ law.rest =
-    ap (recv 3) h.trace_is ∙ law.front ∙ ap (λ (bs : List ℕ). bs ++ law.rest) (ap (sent 2) (sym h.trace_is)) in
-    apart (cc)
 
 pub answers_itself : AnswersItself
 answers_itself came more byte g h =
@@ -216,15 +171,6 @@ module _ (g : NodeConfig) (trace : List Entry) (h : Lawful g trace) (before : Li
       → p ≡ of_plain l (captured.entry z)
   link_point l z on is mine = of_plain_link before z l on p (own_in g trace h before p behind are) is mine
 
-  -- with it the parts of the link are one more
-  parts_with : (l : ℕ) (q : Part) → p ≡ of_plain l q → plain_of l (before ++ p ∷ []) ≡ plain_of l before ++ q ∷ []
-  parts_with l q same =
-      one_more (plain_in l) before p ∙ ap (λ (r : Point). plain_of l before ++ plain_in l r) same
-      ∙ ap (λ (b : Bool). plain_of l before ++ cond b (q ∷ []) []) (itself l)
-    where
-      itself : (a : ℕ) → (a == a) ≡ true
-      itself a = grind arith
-
   -- a law of it holds at the point
   at_law : (P : ℕ → List Part → Part → Type 0) → ((l : ℕ) → plain.AtEach (P l) (plain_of l h.points)) → (l : ℕ) (q : Part)
       → p ≡ of_plain l q → P l (plain_of l before) q
@@ -241,12 +187,6 @@ module _ (g : NodeConfig) (trace : List Entry) (h : Lawful g trace) (before : Li
 
   pub answered : (l : ℕ) (aim : Aim) → aim_of (plain_of l before) ≡ Some aim → Answered g l before aim
   answered l aim asked = (let at = goes_at g trace h before p behind are in answers g l at.machine before at.run aim asked)
-
-  -- it is relayed so with the point
-  relay_with : (l : ℕ) (q : Part) → p ≡ of_plain l q → plain_relay.RelayLaw (at_start g) (plain_of l before ++ q ∷ [])
-  relay_with l q same =
-      subst (plain_relay.RelayLaw (at_start g)) (parts_with l q same)
-      ((h.laws (before ++ p ∷ []) behind (are ∙ sym (append_assoc before (p ∷ []) behind))).plain l).relay
 
 pub relays_denied : RefusedAt RelaysDenied
 relays_denied g trace before behind p z h are is so = by so.of_it
@@ -265,42 +205,6 @@ relays_denied g trace before behind p z h are is so = by so.of_it
         ((h.access before p behind are (e.Went so.on so.bytes) so.on goes refl).plain mine
         (subst (λ (k : ℕ). judges (door_of (plain_of k before)) ≡ true) (sym same) so.judged)))
     by (inr mine) = not ((h.access before p behind are (e.Went so.on so.bytes) so.on goes refl).relay so.link mine so.judged)
-
--- one part more behind which the header is the same
-header_same : (parts : List Part) (q : Part) → ((told : Option Seen) → header_by told q ≡ told)
-    → header_of (parts ++ q ∷ []) ≡ header_of parts
-header_same parts q none = fold-append header_by None parts (q ∷ []) ∙ none (header_of parts)
-
-pub relays_uncome : RefusedAt RelaysUncome
-relays_uncome g trace before behind p z h are is so =
-    let l = so.link in
-    let u = so.up in
-    let bytes = so.byte ∷ so.more in
-    let q = captured.up (e.Went u bytes) in
-    let parts = plain_of l before in
-    let same = up_point g trace h before p behind are l u (e.Went u bytes) refl (is ∙ ap (λ (y : Entry). y ∷ []) so.goes) so.owned in
-    let law = (relay_with g trace h before p behind are l q same).ups in
-    let came = ap₂ plain.behind (header_same parts q (λ told. refl)) (one_more came_in parts q ∙ append-nil (link_came parts)) in
-    let all = sym (up_side g trace h before p behind are l u so.owned).went ∙ so.all_went
-    ∙ raw_is g trace h before p behind are l u so.owned in
-    not_more (up_went parts) so.more law.rest so.byte
-    (all ∙ sym came ∙ law.front ∙ ap (λ (bs : List ℕ). bs ++ law.rest) (one_more up_went_in parts q))
-
-pub relays_back_uncome : RefusedAt RelaysBackUncome
-relays_back_uncome g trace before behind p z h are is so =
-    let l = so.link in
-    let u = so.up in
-    let bytes = so.byte ∷ so.more in
-    let q = captured.entry (e.Went l bytes) in
-    let parts = plain_of l before in
-    let same = link_point g trace h before p behind are l (e.Went l bytes) refl (is ∙ ap (λ (y : Entry). y ∷ []) so.goes)
-    (link_is g trace h before p behind are l u so.owned) in
-    let law = (relay_with g trace h before p behind are l q same).downs in
-    let came = one_more up_came_in parts q ∙ append-nil (up_came parts) in
-    let all = sym (link_side g trace h before p behind are l u so.owned).went ∙ so.all_went
-    ∙ (up_side g trace h before p behind are l u so.owned).came in
-    not_more (link_went parts) so.more law.rest so.byte
-    (all ∙ sym came ∙ law.front ∙ ap (λ (bs : List ℕ). bs ++ law.rest) (one_more went_in parts q))
 
 -- what is dialled at the plain door is the header's destination
 dialled_by : (v : Verdict) (aim : Aim) → by_verdict v ≡ answer.aims aim → v ≡ Dial (address_of aim)

@@ -1,8 +1,6 @@
 -- Places of tunnels are refused that no lawful trace has.
-use Rattle.std.proofs.Common.{◌≡◌, ◌≢◌, ℕ, Bool, cond, List, [], ◌∷◌, ◌++◌, fold, Some, refl, ap, ap₂, sym, ◌∙◌, arith}
-use Rattle.std.proofs.lemmas.Bool.{eq-eqb}
-use Rattle.std.specs.List.{flat_map}
-use Rattle.std.proofs.lemmas.List.{append-nil, append_assoc}
+use Rattle.std.proofs.Common.{◌≡◌, ◌≢◌, ℕ, List, [], ◌∷◌, ◌++◌, Some, refl, ap, ap₂, sym, ◌∙◌, arith}
+use Rattle.std.proofs.lemmas.List.{append_assoc}
 use Rattle.hb_base.specs.declared.cause.Cause.{Cause}
 use Rattle.hb_base.specs.declared.cause.Cause.TheVariants as cause
 use Rattle.hb_base.specs.declared.door.Why.TheVariants as whys
@@ -14,35 +12,26 @@ use Rattle.hb_inbound.specs.Dials.{DialsAt}
 use Rattle.hb_inbound.specs.Ends as life
 use Rattle.hb_inbound.specs.Ends.{pending, lives, ends_judged, up_of, EndsAt as PartEndsAt}
 use Rattle.hb_inbound.specs.Part as part
-use Rattle.hb_inbound.specs.Part.{Part, moves, moves_in}
-use Rattle.hb_inbound.specs.Sides.{data_by, stream_came, peer_of}
+use Rattle.hb_inbound.specs.Sides.{peer_of}
 use Rattle.hb_model.proofs.Grown.{one_more}
 use Rattle.hb_model.specs.Messages.{held}
 use Rattle.hb_model.specs.Point as point
 use Rattle.hb_model.specs.declared.config.NodeConfig.{NodeConfig}
-use Rattle.hb_proxy.proofs.Owned.{whose_in, whose_one}
 use Rattle.hb_proxy.proofs.Places.{at_parts}
 use Rattle.hb_proxy.specs.Access.{IsAdmitted}
 use Rattle.hb_proxy.specs.Held.{at_start}
-use Rattle.hb_proxy.specs.Owners.{upstream_of, owner, owner_by}
-use Rattle.hb_proxy.specs.Points.{Point, of_control, of_link, entry_in, entries, part_in, parts_of, control_of}
+use Rattle.hb_proxy.specs.Owners.{upstream_of, owner}
+use Rattle.hb_proxy.specs.Points.{Point, of_control, entry_in, entries, part_in, parts_of, control_of}
 use Rattle.hb_table.specs.Judgement.{judged}
 use Rattle.hb_table.specs.declared.judgement.Judged.{Judged}
 use Rattle.hb_table.specs.declared.judgement.Judged.TheVariants.{Admitted, Unknown, Denied}
-use Rattle.hb_world.specs.Trace.{sent}
-use Rattle.hb_world.proofs.TraceLemmas.{sent-grows}
 use Rattle.hb_world.specs.declared.entry.Entry.{Entry}
 use Rattle.hb_world.specs.declared.entry.Entry.TheVariants as e
 use Rattle.hb_laws.specs.Lawful.{Lawful}
-use Rattle.hb_laws.specs.RefusedTunnels.{RefusedAt, GoesDenied, GoesUncome, DialsElsewhere, KeepsEndedUp, KeepsRevokedUp, ClosesUpForAnother, ClosesLiveUp}
-use Rattle.hb_laws.proofs.Bytes.{not_more}
+use Rattle.hb_laws.specs.RefusedTunnels.{RefusedAt, GoesDenied, DialsElsewhere, KeepsEndedUp, KeepsRevokedUp, ClosesUpForAnother, ClosesLiveUp}
 use Rattle.hb_laws.proofs.Lawful.{goes_at, own_in, laws_of}
 use Rattle.hb_laws.proofs.Living.{all_closed, up_lives}
 use Rattle.hb_laws.proofs.Places.{dial_point, of_upstream}
-
--- the part of a stream's upstream that an entry stands on, and one part more
-up_part : (l s : ℕ) (z : Entry) → part_in l (of_link l (part.up s z)) ≡ part.up s z ∷ []
-up_part l s z = ap (λ (b : Bool). cond b (part.up s z ∷ []) []) (eq-eqb l l refl)
 
 -- BYTES
 
@@ -55,33 +44,6 @@ goes_denied g trace before behind p z h are is so =
     let same_target : so.target ≡ admits.target =
     (let told : Some so.target ≡ Some admits.target = sym so.target_is ∙ admits.target_is in cc) in
     so.denied (ap₂ (judged (held g (control_of before))) same_peer same_target ∙ admits.admitted)
-
--- what came on a stream is what it was, behind an entry of an upstream
-same_stream : (s t : ℕ) (parts : List Part) (z : Entry) → stream_came s (parts ++ part.up t z ∷ []) ≡ stream_came s parts
-same_stream s t parts z = ap (flat_map (data_by s)) (one_more moves_in parts (part.up t z) ∙ append-nil (moves parts))
-
--- it stays the upstream of the stream
-still_owned : (before : List Point) (p : Point) (u : ℕ) (bytes : List ℕ) → entry_in p ≡ e.Went u bytes ∷ []
-    → owner u (entries (before ++ p ∷ [])) ≡ owner u (entries before)
-still_owned before p u bytes is = whose_one before p u ∙ ap (λ (es : List Entry). fold (owner_by u) (whose_in before u) es) is
-
-pub goes_uncome : RefusedAt GoesUncome
-goes_uncome g trace before behind p z h are is so =
-    let l = so.link in
-    let s = so.stream in
-    let u = so.up in
-    let bytes = so.byte ∷ so.more in
-    let goes = is ∙ ap (λ (y : Entry). y ∷ []) so.goes in
-    let p_is = of_upstream before (e.Went u bytes) u refl p (own_in g trace h before p behind are) goes l s so.owned in
-    let laws = h.laws (before ++ p ∷ []) behind (are ∙ sym (append_assoc before (p ∷ []) behind)) in
-    let up = laws.relay.ups l s u (still_owned before p u bytes goes ∙ so.owned) in
-    let parts = one_more (part_in l) before p ∙ ap (λ (q : Point). parts_of l before ++ part_in l q) p_is
-    ∙ ap (λ (qs : List Part). parts_of l before ++ qs) (up_part l s (e.Went u bytes)) in
-    let came = ap (stream_came s) parts ∙ same_stream s s (parts_of l before) (e.Went u bytes) in
-    let went = ap (sent u) (one_more entry_in before p ∙ ap (λ (es : List Entry). entries before ++ es) goes)
-    ∙ sent-grows u (entries before) (e.Went u bytes) ∙ ap (λ (b : Bool). sent u (entries before) ++ cond b bytes []) (eq-eqb u u refl) in
-    not_more (sent u (entries before)) so.more up.rest so.byte
-    (so.all_went ∙ sym came ∙ up.front ∙ ap (λ (bs : List ℕ). bs ++ up.rest) went)
 
 -- DIALS
 

@@ -1,7 +1,7 @@
 -- Where no link is one to the control plane nobody is admitted.
 use Rattle.std.proofs.Common.{◌≡◌, Ordering, ℕ, false, cond, List, [], ◌∷◌, ◌++◌, fold, length, Option, Some, None, refl, ap, sym, ◌∙◌, arith}
 use Rattle.std.specs.Cmp.Lexicographic.{slice_cmp}
-use Rattle.std.specs.FinMap.{empty, entries as entries_of, len-entries, len-empty}
+use Rattle.std.specs.FinMap.{FinMap, len, entries as entries_of, len-entries, len-empty}
 use Rattle.std.specs.List.{list_any, filter_map}
 use Rattle.std.specs.Ordering.{nat_cmp}
 use Rattle.std.specs.Prelude.{filter, option_and_then}
@@ -14,7 +14,6 @@ use Rattle.hb_base.specs.declared.peer.Peer.{Peer}
 use Rattle.hb_base.specs.declared.target.Target.{Target}
 use Rattle.hb_held.specs.Held.{Resources, nothing_held}
 use Rattle.hb_held.specs.Lookup.{has_address, named_workload, least, workload_at, known}
-use Rattle.hb_held.specs.declared.doors.OwnDoors.{OwnDoors}
 use Rattle.hb_held.specs.declared.versioned.Versioned.{Versioned}
 use Rattle.hb_model.specs.Calls.{is_control_of}
 use Rattle.hb_model.specs.Inner.{InnerLaw}
@@ -51,20 +50,22 @@ no_length : {X : Type 0} (xs : List X) → length xs ≡ 0 → xs ≡ []
 no_length [] is = refl
 no_length (x ∷ xs) is = absurd (omega (arith, is))
 
-no_entries : {K X : Type 0} (R : K → K → Ordering) → entries_of (empty {X = X} {R = R}) ≡ []
-no_entries {K} {X} R = no_length (entries_of (empty {X = X} {R = R})) (sym (len-entries (empty {X = X} {R = R})) ∙ len-empty R X)
+no_entries : {K X : Type 0} {R : K → K → Ordering} (m : FinMap R X) → len m ≡ 0 → entries_of m ≡ []
+no_entries m none = no_length (entries_of m) (sym (len-entries m) ∙ none)
 
-unknown : (network node : List ℕ) (doors : OwnDoors) (ip : Ip) → known (nothing_held network node doors) ip ≡ None
+-- where no address is held no workload is known, so nobody is admitted
+unknown : (h : Resources) (ip : Ip) → len h.addresses ≡ 0 → known h ip ≡ None
 unfolding workload_at
-unknown network node doors ip =
-    ap (λ (es : List (List ℕ × Versioned AddressRecord)). option_and_then (λ e. cond (bytes_eq e.1.node node) (Some e) None)
-    (least (filter (λ e. has_address network ip e.1) (filter_map named_workload es)))) (no_entries (slice_cmp nat_cmp))
+unknown h ip none =
+    ap (λ (es : List (List ℕ × Versioned AddressRecord)). option_and_then (λ e. cond (bytes_eq e.1.node h.node) (Some e) None)
+    (least (filter (λ e. has_address h.network ip e.1) (filter_map named_workload es)))) (no_entries h.addresses none)
 
-pub nobody_admitted : (network node : List ℕ) (doors : OwnDoors) (peer : Peer) (target : Target)
-    → judged (nothing_held network node doors) peer target ≡ Unknown
-nobody_admitted network node doors peer target =
-    ap (λ (o : Option (List ℕ × Workload)). judged_at (nothing_held network node doors) o (record { peer = peer; target = target }))
-    (unknown network node doors target.ip)
+pub nobody_admitted : (h : Resources) (peer : Peer) (target : Target) → len h.addresses ≡ 0 → judged h peer target ≡ Admitted → ⊥
+nobody_admitted h peer target none admitted =
+    let no : Unknown ≡ Admitted =
+    sym (ap (λ (o : Option (List ℕ × Workload)). judged_at h o (record { peer = peer; target = target })) (unknown h target.ip none))
+    ∙ admitted in
+    cc
 
 -- where no link was one to the control plane what is held is what was at the start
 pub nothing_told : (g : NodeConfig) (trace : List Entry) → (h : Lawful g trace) → (front rest : List Point) → h.points ≡ front ++ rest
@@ -76,6 +77,5 @@ pub none_admitted : (g : NodeConfig) (trace : List Entry) → (h : Lawful g trac
     → ((l : ℕ) → list_any (is_control_of l) (entries front) ≡ false) → (peer : Peer) (target : Target)
     → judged (held g (control_of front)) peer target ≡ Admitted → ⊥
 none_admitted g trace h front rest are no_link peer target admitted =
-    let no : Unknown ≡ Admitted = sym (nobody_admitted g.network g.node g.doors peer target)
-    ∙ sym (ap (λ (r : Resources). judged r peer target) (nothing_told g trace h front rest are no_link)) ∙ admitted in
-    cc
+    nobody_admitted (held g (control_of front)) peer target
+    (ap (λ (r : Resources). len r.addresses) (nothing_told g trace h front rest are no_link) ∙ len-empty (slice_cmp nat_cmp) _) admitted

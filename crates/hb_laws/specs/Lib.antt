@@ -6,4 +6,6 @@ pub mod RefusedHearing
 pub mod RefusedLinks
 pub mod RefusedOutbound
 pub mod RefusedPlain
+pub mod RefusedRings
 pub mod RefusedTunnels
+pub mod RefusedWindows

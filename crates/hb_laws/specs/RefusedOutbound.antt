@@ -4,7 +4,6 @@ use Rattle.std.specs.List.{list_any}
 use Rattle.hb_base.specs.declared.cause.Cause.{Cause}
 use Rattle.hb_base.specs.declared.cause.Cause.TheVariants as cause
 use Rattle.hb_base.specs.declared.door.Door.TheVariants as door
-use Rattle.hb_base.specs.declared.door.Why.{Why}
 use Rattle.hb_base.specs.declared.door.Why.TheVariants as whys
 use Rattle.hb_base.specs.declared.target.Target.{Target}
 use Rattle.hb_captured.specs.Answer as answer
@@ -18,7 +17,6 @@ use Rattle.hb_model.specs.Messages.{held}
 use Rattle.hb_model.specs.Point as point
 use Rattle.hb_model.specs.declared.config.NodeConfig.{NodeConfig}
 use Rattle.hb_proxy.specs.Held.{at_start}
-use Rattle.hb_proxy.specs.Owners.{relay_of, dialled_for}
 use Rattle.hb_proxy.specs.Points.{Point, of_control, control_of, plain_of}
 use Rattle.hb_world.specs.declared.entry.Entry.{Entry}
 use Rattle.hb_world.specs.declared.entry.Entry.TheVariants as e
@@ -39,11 +37,6 @@ DialsAsPlain = (to : Target) (came : List ℕ)
 abbrev pub DialsAsDirect : Type 0
 DialsAsDirect = (to : Target) (came : List ℕ)
     → Refused (λ g. dials g ∷ accepts_plain ∷ e.Came 2 came ∷ e.Dialled 3 to (whys.Direct 2) ∷ [])
-
--- two upstreams are dialled for one, whatever the reasons say of its door
-abbrev pub DialsDirectTwice : Type 0
-DialsDirectTwice = (to other : Target) (first second : Why) → dialled_for first ≡ relay_of 2 → dialled_for second ≡ relay_of 2
-    → Refused (λ g. dials g ∷ accepts_outbound ∷ e.Dialled 3 to first ∷ e.Dialled 4 other second ∷ [])
 
 -- one is dialled though no response ever came; and bytes go to its upstream
 abbrev pub DialsUntold : Type 0

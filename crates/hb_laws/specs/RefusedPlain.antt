@@ -1,12 +1,15 @@
 -- Small traces of plain links and of their upstreams that no run leaves, and places that no lawful trace has.
+use Rattle.std.specs.FinMap.{len}
 use Rattle.std.specs.Prelude.{◌≡◌, ◌≢◌, ◌⊎◌, ℕ, ◌+◌, ◌<◌, Bool, true, false, List, [], ◌∷◌, ◌++◌, length, Some}
 use Rattle.hb_base.specs.declared.cause.Cause.{Cause}
 use Rattle.hb_base.specs.declared.cause.Cause.TheVariants as cause
 use Rattle.hb_base.specs.declared.door.Door.TheVariants as door
+use Rattle.hb_base.specs.declared.door.Why.{Why}
 use Rattle.hb_base.specs.declared.door.Why.TheVariants as whys
 use Rattle.hb_base.specs.declared.target.Target.{Target}
 use Rattle.hb_captured.specs.Captured.{judges}
 use Rattle.hb_captured.specs.Ends.{GoesOn}
+use Rattle.hb_captured.specs.Part as captured
 use Rattle.hb_captured.specs.Sides as plain
 use Rattle.hb_captured.specs.Sides.{door_of, header_of, judged_in, is_end, was_on_link, was, ends_up, pending, over, course_of}
 use Rattle.hb_disco.specs.declared.response.Response.{Response}
@@ -16,9 +19,9 @@ use Rattle.hb_model.specs.Messages.{held}
 use Rattle.hb_model.specs.Point as point
 use Rattle.hb_model.specs.declared.config.NodeConfig.{NodeConfig}
 use Rattle.hb_proxy.specs.Held.{at_start}
-use Rattle.hb_proxy.specs.Owners.{owner, plain_link, relay_of}
-use Rattle.hb_proxy.specs.Points.{Point, of_control, entries, control_of, plain_of}
-use Rattle.hb_proxy.specs.Relay.{came_behind}
+use Rattle.hb_proxy.specs.Owners.{owner, plain_link, relay_of, dialled_for}
+use Rattle.hb_proxy.specs.Points.{Point, of_control, of_plain, entries, control_of, plain_of}
+use Rattle.hb_proxy.specs.Relay.{came_behind, PlainRelaysDown}
 use Rattle.hb_table.specs.declared.judgement.Judged.TheVariants.{Admitted}
 use Rattle.hb_world.specs.Trace.{recv, sent, lives}
 use Rattle.hb_world.specs.declared.entry.Entry.{Entry}
@@ -27,28 +30,23 @@ use Rattle.hb_laws.specs.Lawful.{Lawful}
 use Rattle.hb_laws.specs.Refused.{Refused, dials, fails, waits}
 use Rattle.hb_laws.specs.RefusedTunnels.{is_more}
 
--- link 2 is accepted at the plain door, and bytes come on it; link 3 is dialled for it, and opened
+-- link 2 is accepted at the plain door
 abbrev pub accepts_plain : Entry
 accepts_plain = e.Accepted 2 door.Plain
 
-abbrev pub dials_relay : Target → Entry
-dials_relay to = e.Dialled 3 to (whys.Plain 2)
-
-abbrev pub relayed : NodeConfig → List ℕ → Target → List Entry
-relayed g came to = dials g ∷ accepts_plain ∷ e.Came 2 came ∷ dials_relay to ∷ e.Opened 3 ∷ []
-
 -- BIRTHS
 
--- bytes come from an upstream that was never dialled, and go to one; two upstreams are dialled for one link
+-- bytes come from an upstream that was never dialled, and go to one
 abbrev pub ComesUndialled : Type 0
 ComesUndialled = (bytes : List ℕ) → Refused (λ g. dials g ∷ accepts_plain ∷ e.Came 3 bytes ∷ [])
 
 abbrev pub GoesUndialled : Type 0
 GoesUndialled = (bytes : List ℕ) → Refused (λ g. dials g ∷ accepts_plain ∷ e.Went 3 bytes ∷ [])
 
-abbrev pub DialsRelayTwice : Type 0
-DialsRelayTwice = (to other : Target)
-    → Refused (λ g. dials g ∷ accepts_plain ∷ dials_relay to ∷ e.Dialled 4 other (whys.Plain 2) ∷ [])
+-- an upstream is dialled though no response ever came, whatever came on the link
+abbrev pub DialsRelayUntold : Type 0
+DialsRelayUntold = (to : Target) (came : List ℕ)
+    → Refused (λ g. fails g ∷ e.Accepted 1 door.Plain ∷ e.Came 1 came ∷ e.Dialled 2 to (whys.Plain 1) ∷ [])
 
 -- CLOSES
 
@@ -70,29 +68,12 @@ ClosesPlainForSecond = (why : Cause) → is_failure why ≡ true
 
 -- BYTES
 
--- bytes go to an upstream, and on its link, though nothing is held, since no response ever came
-abbrev pub RelaysUnheld : Type 0
-RelaysUnheld = (to : Target) (came bytes : List ℕ)
-    → Refused (λ g. fails g ∷ e.Accepted 1 door.Plain ∷ e.Came 1 came ∷ e.Dialled 2 to (whys.Plain 1) ∷ e.Opened 2 ∷ e.Went 2 bytes ∷ [])
-
-abbrev pub RelaysBackUnheld : Type 0
-RelaysBackUnheld = (to : Target) (came back bytes : List ℕ)
-    → Refused (λ g. fails g ∷ e.Accepted 1 door.Plain ∷ e.Came 1 came ∷ e.Dialled 2 to (whys.Plain 1) ∷ e.Opened 2 ∷ e.Came 2 back
-    ∷ e.Went 1 bytes ∷ [])
-
 -- bytes went to an upstream, and fewer came on its link than these and the 16 octets that each front header has
 abbrev pub SendsHeader : Type 0
 SendsHeader = (g : NodeConfig) (trace : List Entry) (l u : ℕ) → Lawful g trace → owner u trace ≡ relay_of l → 0 < length (sent u trace)
     → length (recv l trace) < 16 + length (sent u trace) → ⊥
 
--- bytes go on the link that its upstream didn't send: nothing, or another octet; or it has none
-abbrev pub InventsBack : Type 0
-InventsBack = (to : Target) (came more : List ℕ) (byte : ℕ) → Refused (λ g. relayed g came to ++ e.Went 2 (byte ∷ more) ∷ [])
-
-abbrev pub ChangesBack : Type 0
-ChangesBack = (to : Target) (came : List ℕ) (byte other : ℕ) → byte ≢ other
-    → Refused (λ g. relayed g came to ++ e.Came 3 (byte ∷ []) ∷ e.Went 2 (other ∷ []) ∷ [])
-
+-- bytes go on a link that has no upstream
 abbrev pub AnswersItself : Type 0
 AnswersItself = (came more : List ℕ) (byte : ℕ)
     → Refused (λ g. dials g ∷ accepts_plain ∷ e.Came 2 came ∷ e.Went 2 (byte ∷ more) ∷ [])
@@ -116,7 +97,17 @@ pub record RelaysDenied (g : NodeConfig) (before : List Point) (z : Entry) : Typ
   pub told : header_of (plain_of link before) ≡ Some seen
   pub denied : judged_in (held g (control_of before)) seen ≢ Admitted
 
--- a byte goes to its upstream, and all that came behind the front header went already
+-- they go on either though no workload is held any more, whoever the peer is. `EntryLaw` refuses it
+pub record RelaysUnheld (g : NodeConfig) (before : List Point) (z : Entry) : Type 0 where
+  pub link : ℕ
+  pub on : ℕ
+  pub bytes : List ℕ
+  pub goes : z ≡ e.Went on bytes
+  pub of_it : IsOf link on before
+  pub judged : judges (door_of (plain_of link before)) ≡ true
+  pub none : len (held g (control_of before)).addresses ≡ 0
+
+-- a byte goes to its upstream, and all that came behind the front header went already; or another one came next. `Relays` refuses both
 pub record RelaysUncome (g : NodeConfig) (before : List Point) (z : Entry) : Type 0 where
   pub link : ℕ
   pub up : ℕ
@@ -126,7 +117,19 @@ pub record RelaysUncome (g : NodeConfig) (before : List Point) (z : Entry) : Typ
   pub owned : owner up (entries before) ≡ relay_of link
   pub all_went : sent up (entries before) ≡ came_behind before link
 
--- one goes on the link, and all that came from its upstream went already
+pub record ChangesForth (g : NodeConfig) (before : List Point) (z : Entry) : Type 0 where
+  pub link : ℕ
+  pub up : ℕ
+  pub byte : ℕ
+  pub other : ℕ
+  pub rest : List ℕ
+  pub more : List ℕ
+  pub goes : z ≡ e.Went up (other ∷ more)
+  pub owned : owner up (entries before) ≡ relay_of link
+  pub came : came_behind before link ≡ sent up (entries before) ++ byte ∷ rest
+  pub differs : byte ≢ other
+
+-- one goes on the link, and all that came from its upstream went already; or another one came next from that. `Relays` refuses both
 pub record RelaysBackUncome (g : NodeConfig) (before : List Point) (z : Entry) : Type 0 where
   pub link : ℕ
   pub up : ℕ
@@ -135,6 +138,30 @@ pub record RelaysBackUncome (g : NodeConfig) (before : List Point) (z : Entry) :
   pub goes : z ≡ e.Went link (byte ∷ more)
   pub owned : owner up (entries before) ≡ relay_of link
   pub all_went : sent link (entries before) ≡ recv up (entries before)
+
+pub record ChangesBack (g : NodeConfig) (before : List Point) (z : Entry) : Type 0 where
+  pub link : ℕ
+  pub up : ℕ
+  pub byte : ℕ
+  pub other : ℕ
+  pub rest : List ℕ
+  pub more : List ℕ
+  pub goes : z ≡ e.Went link (other ∷ more)
+  pub owned : owner up (entries before) ≡ relay_of link
+  pub came : recv up (entries before) ≡ sent link (entries before) ++ byte ∷ rest
+  pub differs : byte ≢ other
+
+-- a second upstream is dialled for it, as one of whatever door. `DialsOnce` refuses it
+pub record DialsRelayTwice (g : NodeConfig) (before : List Point) (z : Entry) : Type 0 where
+  pub link : ℕ
+  pub up : ℕ
+  pub first : ℕ
+  pub target : Target
+  pub why : Why
+  pub dials : z ≡ e.Dialled up target why
+  pub for_it : dialled_for why ≡ relay_of link
+  pub owned : owner first (entries before) ≡ relay_of link
+  pub differs : first ≢ up
 
 -- another target is dialled for it, as one of the plain door, than the destination that its front header told, or none was told
 pub record DialsAside (g : NodeConfig) (before : List Point) (z : Entry) : Type 0 where
@@ -159,6 +186,14 @@ pub record ShutsBackEarly (g : NodeConfig) (before : List Point) (z : Entry) : T
   pub shuts : z ≡ e.Shut link
   pub owned : owner up (entries before) ≡ relay_of link
   pub early : (sent link (entries before) ≢ recv up (entries before)) ⊎ (was ends_up (plain_of link before) ≡ false)
+
+-- two bytes came from its upstream, and the first one goes on it: the same law lets it
+abbrev pub came_back : (first second : ℕ) → List Point
+came_back first second =
+    of_plain 2 (captured.up (e.Came 3 (first ∷ second ∷ []))) ∷ of_plain 2 (captured.entry (e.Went 2 (first ∷ []))) ∷ []
+
+abbrev pub CameMayGoBack : Type 0
+CameMayGoBack = (first second : ℕ) → PlainRelaysDown (came_back first second) 2 3
 
 -- ENDS
 

@@ -1,26 +1,33 @@
 //! What is lawful, and what isn't: small wrong traces, and good ones. Each is the contract of a function that does nothing.
 
+ghost use Rattle.hb_proxy.specs.Access.{EntryLaw};
 ghost use Rattle.hb_laws.specs.Lawful.{RunsAreLawful};
 ghost use Rattle.hb_laws.specs.Refused.{NeverDials, DialsNoMore, DialsTwice, DialsAnother};
 ghost use Rattle.hb_laws.specs.Refused.{ClosesHealthy, ClosesForAnother, ClosesForSecond};
 ghost use Rattle.hb_laws.specs.Refused.{KeepsEnded, KeepsBroken, LooksAtNothing, AppliesForged};
-ghost use Rattle.hb_laws.specs.RefusedLinks.{ComesUnborn, GoesUnborn, BornTwice, AcceptsFirst, DialsUpTwice};
+ghost use Rattle.hb_laws.specs.RefusedLinks.{ComesUnborn, GoesUnborn, BornTwice, AcceptsFirst, DialsUpUntold};
 ghost use Rattle.hb_laws.specs.RefusedLinks.{ClosesLinkForSecond, ClosesHealthyLink};
-ghost use Rattle.hb_laws.specs.RefusedLinks.{GoesUnheld, SendsMore, InventsDown, ChangesDown};
+ghost use Rattle.hb_laws.specs.RefusedLinks.{SendsMore};
 ghost use Rattle.hb_laws.specs.RefusedTunnels.{RefusedAt, GoesDenied, GoesUncome, DialsElsewhere, KeepsEndedUp, KeepsRevokedUp};
 ghost use Rattle.hb_laws.specs.RefusedTunnels.{ClosesUpForAnother, ClosesLiveUp};
-ghost use Rattle.hb_laws.specs.RefusedPlain.{ComesUndialled, GoesUndialled, DialsRelayTwice, ClosesHealthyPlain, ClosesPlainForSecond};
-ghost use Rattle.hb_laws.specs.RefusedPlain.{RelaysUnheld, RelaysBackUnheld, SendsHeader, InventsBack, ChangesBack, AnswersItself};
+ghost use Rattle.hb_laws.specs.RefusedTunnels.{RefusedBy, DialsOnce, Relays, DialsUpTwice, GoesUnheld, ChangesUp, InventsDown, ChangesDown};
+ghost use Rattle.hb_laws.specs.RefusedTunnels.{OnceMayBeDialled, CameMayGoDown};
+ghost use Rattle.hb_laws.specs.RefusedPlain.{ComesUndialled, GoesUndialled, DialsRelayUntold, ClosesHealthyPlain, ClosesPlainForSecond};
+ghost use Rattle.hb_laws.specs.RefusedPlain.{SendsHeader, AnswersItself, DialsRelayTwice, RelaysUnheld, ChangesForth, ChangesBack};
+ghost use Rattle.hb_laws.specs.RefusedPlain.{CameMayGoBack};
 ghost use Rattle.hb_laws.specs.RefusedPlain.{RelaysDenied, RelaysUncome, RelaysBackUncome, DialsAside, ShutsEarly, ShutsBackEarly};
 ghost use Rattle.hb_laws.specs.RefusedPlain.{KeepsEndedPlain, KeepsRevokedPlain, ClosesPlainForAnother, ClosesLivePlain};
 ghost use Rattle.hb_laws.specs.RefusedGateways.{DialsForPlain as GatewayForPlain, DialsUnasked as GatewayUnasked};
 ghost use Rattle.hb_laws.specs.RefusedGateways.{DialsUntold as GatewayUntold, WritesUnopened as GatewayUnopened, WritesNoFront};
 ghost use Rattle.hb_laws.specs.RefusedGateways.{InventsBytes, ShutsGateway, ClosesGateway, DialsRound};
 ghost use Rattle.hb_laws.specs.RefusedGateways.{KeepsBrokenGateway, KeepsEndedGateway};
-ghost use Rattle.hb_laws.specs.RefusedOutbound.{DialsAsPlain, DialsAsDirect, DialsDirectTwice, DialsUntold, RelaysUntold};
+ghost use Rattle.hb_laws.specs.RefusedOutbound.{DialsAsPlain, DialsAsDirect, DialsUntold, RelaysUntold};
 ghost use Rattle.hb_laws.specs.RefusedOutbound.{DialsUnrouted, DialsAstray, ClosesUpdated, ClosesRevoked};
 ghost use Rattle.hb_laws.specs.Good.{GoodTraceIsLawful, GoodLinkIsLawful, GoodEndIsLawful, GoodPlainIsLawful, GoodRefusalIsLawful};
 ghost use Rattle.hb_laws.specs.Good.{GoodUnsyncedIsLawful};
+ghost use Rattle.hb_laws.specs.RefusedWindows.{GoesBeyond, ControlGoesBeyond, LastOctetFits, LinkGoesBeyond, PlaneGoesBeyond};
+ghost use Rattle.hb_laws.specs.RefusedWindows.{GateGoesBeyond};
+ghost use Rattle.hb_laws.specs.RefusedRings.{RefusedFront, KeepsMoreUp, KeepsMorePlain, ComesBeyondRing};
 ghost use Rattle.hb_laws.specs.RefusedHearing.{HearsNoGoaway, HearsNoReset, HearsNoNotFound, HearsNoEnd, HearsNoEndOfHeaders};
 ghost use Rattle.hb_laws.specs.RefusedHearing.{KeepsReset, KeepsEndOfStream, KeepsEndAtOnce, KeepsNotFound};
 ghost use Rattle.hb_laws.specs.Refused.{ReadsUnopened, ReadsBehindEnd, ReadsBehindClose, WritesUnopened, FinishesOpened};
@@ -78,13 +85,13 @@ pub fn calls_are_refused()
 {}
 
 /// Nor one in which bytes come or go on a link that nobody bore, a number is born twice, a link is accepted before the control plane is
-/// dialled, or two upstreams are dialled for one stream.
+/// dialled, or an upstream is dialled for a stream though no response ever came.
 pub fn births_are_refused()
     ensures comes { ComesUnborn }
     ensures goes { GoesUnborn }
     ensures number { BornTwice }
     ensures first { AcceptsFirst }
-    ensures twice { DialsUpTwice }
+    ensures untold { DialsUpUntold }
 {}
 
 /// Nor one in which an inbound link is closed as one that broke, though no call on it failed: a healthy one, or one whose peer ended.
@@ -93,22 +100,28 @@ pub fn closes_of_links_are_refused()
     ensures second { ClosesLinkForSecond }
 {}
 
-/// Nor one in which bytes go to an upstream though no response ever came, or more than came on its link; or in which DATA goes on a
-/// stream that isn't what came from its upstream.
+/// Nor one in which more bytes went to an upstream than came on its link.
 pub fn bytes_are_refused()
-    ensures unheld { GoesUnheld }
     ensures more { SendsMore }
-    ensures invents { InventsDown }
-    ensures changes { ChangesDown }
 {}
 
-/// No lawful trace has a place at which bytes go to an upstream though what is held then doesn't admit the peer, or bytes that didn't come
-/// on the stream; at which another target is dialled than the one that was asked for; at which the upstream of a tunnel that ended lives
-/// where more comes, also next behind an update that no longer admits the peer; or at which an upstream is closed for another cause than
-/// the first, or though its tunnel lives.
+/// One law alone refuses, whatever stands in front, that a second upstream is dialled for a stream, that bytes go to an upstream though no
+/// workload is held any more, or that an octet goes either way, to an upstream or in DATA of its stream, that didn't come from the other
+/// side, or where another one came next.
+pub fn tunnels_are_refused_by_one_law()
+    ensures twice { RefusedBy DialsOnce DialsUpTwice }
+    ensures unheld { RefusedBy EntryLaw GoesUnheld }
+    ensures uncome { RefusedBy Relays GoesUncome }
+    ensures changes_up { RefusedBy Relays ChangesUp }
+    ensures invents { RefusedBy Relays InventsDown }
+    ensures changes { RefusedBy Relays ChangesDown }
+{}
+
+/// No lawful trace has a place at which bytes go to an upstream though what is held then doesn't admit the peer; at which another target is
+/// dialled than the one that was asked for; at which the upstream of a tunnel that ended lives where more comes, also next behind an update
+/// that no longer admits the peer; or at which an upstream is closed for another cause than the first, or though its tunnel lives.
 pub fn places_are_refused()
     ensures denied { RefusedAt GoesDenied }
-    ensures uncome { RefusedAt GoesUncome }
     ensures elsewhere { RefusedAt DialsElsewhere }
     ensures ended { RefusedAt KeepsEndedUp }
     ensures revoked { RefusedAt KeepsRevokedUp }
@@ -116,36 +129,47 @@ pub fn places_are_refused()
     ensures live { RefusedAt ClosesLiveUp }
 {}
 
-/// Nor one in which bytes come from an upstream of a plain link that was never dialled, or go to one, or two are dialled for one link; or
-/// in which such a link is closed as if a call had failed, though none did: a healthy one, or one whose peer ended.
+/// Nor one in which bytes come from an upstream of a plain link that was never dialled, or go to one, or one is dialled though no response
+/// ever came; or in which such a link is closed as if a call had failed, though none did: a healthy one, or one whose peer ended.
 pub fn plain_links_are_refused()
     ensures comes { ComesUndialled }
     ensures goes { GoesUndialled }
-    ensures twice { DialsRelayTwice }
+    ensures untold { DialsRelayUntold }
     ensures healthy { ClosesHealthyPlain }
     ensures second { ClosesPlainForSecond }
 {}
 
-/// Nor one in which bytes go to the upstream of a plain link, or back, though no response ever came; or more than came behind its front
-/// header; or in which bytes go back that its upstream didn't send, or without one.
+/// Nor one in which more bytes go to the upstream of a plain link than came behind its front header, or bytes go on one that has none.
 pub fn relayed_bytes_are_refused()
-    ensures unheld { RelaysUnheld }
-    ensures back_unheld { RelaysBackUnheld }
     ensures header { SendsHeader }
-    ensures invents { InventsBack }
-    ensures changes { ChangesBack }
     ensures itself { AnswersItself }
 {}
 
+/// One law alone refuses that a second upstream is dialled for a plain link, of whatever door; that bytes go either way on one whose door
+/// judges, though no workload is held any more; or that a byte goes either way that didn't come from the other side, or where another one
+/// came next.
+pub fn plain_links_are_refused_by_one_law()
+    ensures twice { RefusedBy DialsOnce DialsRelayTwice }
+    ensures unheld { RefusedBy EntryLaw RelaysUnheld }
+    ensures uncome { RefusedBy Relays RelaysUncome }
+    ensures changes_forth { RefusedBy Relays ChangesForth }
+    ensures back_uncome { RefusedBy Relays RelaysBackUncome }
+    ensures changes { RefusedBy Relays ChangesBack }
+{}
+
+/// These laws let two upstreams be dialled for two streams, and the first of two bytes go that came from an upstream.
+pub fn good_places_obey_their_law()
+    ensures dials { OnceMayBeDialled }
+    ensures down { CameMayGoDown }
+    ensures back { CameMayGoBack }
+{}
+
 /// No lawful trace has a place at which bytes go either way on a plain link though its door judges and what is held then doesn't admit the
-/// peer, or bytes that didn't come from the other side; at which another target is dialled at the plain door than its front header's
-/// destination; at which either side is shut in front of the last byte of the other; at which it ended and lives, or its upstream does,
-/// where more comes, also next behind an update by which a door that judges no longer admits the peer; or at which either is closed for
-/// another cause than the first, or though the link goes on.
+/// peer; at which another target is dialled at the plain door than its front header's destination; at which either side is shut in front of
+/// the last byte of the other; at which it ended and lives, or its upstream does, where more comes, also next behind an update by which a
+/// door that judges no longer admits the peer; or at which either is closed for another cause than the first, or though the link goes on.
 pub fn places_of_plain_links_are_refused()
     ensures denied { RefusedAt RelaysDenied }
-    ensures uncome { RefusedAt RelaysUncome }
-    ensures back_uncome { RefusedAt RelaysBackUncome }
     ensures aside { RefusedAt DialsAside }
     ensures shuts { RefusedAt ShutsEarly }
     ensures shuts_back { RefusedAt ShutsBackEarly }
@@ -156,11 +180,10 @@ pub fn places_of_plain_links_are_refused()
 {}
 
 /// Nor is a trace lawful in which the upstream of a link of the outbound door is dialled as one of the plain door, or the other way round;
-/// in which two are dialled for one such link, for whatever reason; or one is dialled, and gets bytes, though no response ever came.
+/// in which one is dialled, and gets bytes, though no response ever came.
 pub fn outbound_links_are_refused()
     ensures as_plain { DialsAsPlain }
     ensures as_direct { DialsAsDirect }
-    ensures twice { DialsDirectTwice }
     ensures untold { DialsUntold }
     ensures relays { RelaysUntold }
 {}
@@ -193,6 +216,29 @@ pub fn links_to_gateways_are_refused()
 /// No lawful trace has a place at which a link of the outbound door is dialled straight though its way led by a gateway.
 pub fn places_of_gateways_are_refused()
     ensures round { RefusedAt DialsRound }
+{}
+
+/// The window law of an inbound link, and that of the links to the control plane, refuses alone that DATA begins an octet beyond the window
+/// of the connection, of its stream, or beyond the largest frame. The last octet within fits (RFC 9113 sections 4.2 and 6.9).
+pub fn windows_are_not_passed()
+    ensures link { GoesBeyond }
+    ensures control { ControlGoesBeyond }
+    ensures fits { LastOctetFits }
+{}
+
+/// No lawful trace has a place at which such DATA begins, on an inbound link, on one to the control plane, or on one to a gateway.
+pub fn places_beyond_windows_are_refused()
+    ensures link { RefusedAt LinkGoesBeyond }
+    ensures control { RefusedAt PlaneGoesBeyond }
+    ensures gate { RefusedAt GateGoesBeyond }
+{}
+
+/// No front of a lawful run has an octet more that waits than a ring has room for: on the way up of a tunnel, or either way on a plain
+/// link. Nor has one a place at which more comes from the upstream of a tunnel than its ring, and one DATA frame, have room for.
+pub fn rings_are_not_overrun()
+    ensures up { RefusedFront KeepsMoreUp }
+    ensures down { RefusedAt ComesBeyondRing }
+    ensures plain { RefusedFront KeepsMorePlain }
 {}
 
 /// A trace is lawful in which a link to the control plane is dialled, breaks and is closed, and a dial fails at the next tick; one in

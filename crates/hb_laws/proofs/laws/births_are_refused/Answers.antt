@@ -1,4 +1,4 @@
-use Rattle.hb_laws.proofs.RefusedLinks.{comes_unborn, goes_unborn, born_twice, accepts_first, dials_up_twice}
+use Rattle.hb_laws.proofs.RefusedLinks.{comes_unborn, goes_unborn, born_twice, accepts_first, dials_up_untold}
 use Rattle.hb_laws.proofs.laws.births_are_refused.Goals as goal
 
 pub returns : goal.returns
@@ -7,5 +7,5 @@ returns c = record {
   goes = goes_unborn;
   number = born_twice;
   first = accepts_first;
-  twice = dials_up_twice;
+  untold = dials_up_untold;
 }
