@@ -40,11 +40,11 @@ use Rattle.hb_laws.proofs.Spelled.{begun_read}
 use Rattle.hb_laws.proofs.Unheld.{nobody_admitted}
 
 -- a law that holds of each front of a lawful run
-abbrev HoldsAtFronts : (NodeConfig → List Point → Type 0) → Type 0
+abbrev pub HoldsAtFronts : (NodeConfig → List Point → Type 0) → Type 0
 HoldsAtFronts law =
     (g : NodeConfig) (trace : List Entry) → (h : Lawful g trace) → (front rest : List Point) → h.points ≡ front ++ rest → law g front
 
-by_one : (law : NodeConfig → List Point → Type 0) (P : NodeConfig → List Point → Entry → Type 0) → HoldsAtFronts law
+pub by_one : (law : NodeConfig → List Point → Type 0) (P : NodeConfig → List Point → Entry → Type 0) → HoldsAtFronts law
     → ((g : NodeConfig) (before : List Point) (p : Point) (z : Entry) → entry_in p ≡ z ∷ [] → P g before z → law g (before ++ p ∷ []) → ⊥)
     → RefusedBy law P
 by_one law P fronts alone = record {
@@ -56,7 +56,7 @@ by_one law P fronts alone = record {
 dials_at : HoldsAtFronts DialsOnce
 dials_at g trace h front rest are = (h.laws front rest are).upstreams
 
-relays_at : HoldsAtFronts Relays
+pub relays_at : HoldsAtFronts Relays
 relays_at g trace h front rest are = (h.laws front rest are).relay
 
 access_at : HoldsAtFronts EntryLaw
@@ -106,7 +106,7 @@ no_header l (of_gate n q) u bytes is told = refl
 no_header l (of_stream k n t w) u bytes is told = absurd cc
 
 module _ (before : List Point) (p : Point) where
-  abbrev more : List Entry
+  abbrev pub more : List Entry
   more = entries (before ++ p ∷ [])
 
   module _ (z : Entry) (is : entry_in p ≡ z ∷ []) where
@@ -133,7 +133,7 @@ module _ (before : List Point) (p : Point) where
 
   -- bytes that go on a link
   module _ (l : ℕ) (bytes : List ℕ) (is : entry_in p ≡ e.Went l bytes ∷ []) where
-    sent_more : sent l more ≡ sent l (entries before) ++ bytes
+    pub sent_more : sent l more ≡ sent l (entries before) ++ bytes
     sent_more =
         ap (sent l) (trace_more (e.Went l bytes) is) ∙ sent-grows l (entries before) (e.Went l bytes)
         ∙ ap (λ (b : Bool). sent l (entries before) ++ cond b bytes []) (eq-eqb l l refl)
@@ -193,7 +193,7 @@ module _ (before : List Point) (p : Point) where
         (down.rest, sym (recv_same u) ∙ down.front ∙ ap (λ (xs : List ℕ). xs ++ down.rest) (ap (payloads s) begun ∙ all))
 
 -- another byte is next
-other_next : (front rest more last : List ℕ) (byte other : ℕ) → byte ≢ other → front ++ byte ∷ rest ≡ (front ++ other ∷ more) ++ last → ⊥
+pub other_next : (front rest more last : List ℕ) (byte other : ℕ) → byte ≢ other → front ++ byte ∷ rest ≡ (front ++ other ∷ more) ++ last → ⊥
 other_next front rest more last byte other differs is =
     let next : byte ∷ rest ≡ other ∷ (more ++ last) =
     append_cancel_left front (byte ∷ rest) (other ∷ (more ++ last)) (is ∙ append_assoc front (other ∷ more) last) in

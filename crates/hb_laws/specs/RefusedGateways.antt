@@ -1,5 +1,5 @@
 -- Small traces of links to gateways that no run leaves, and places that no lawful trace has.
-use Rattle.std.specs.Prelude.{◌≡◌, ◌≢◌, ℕ, Bool, true, false, List, [], ◌∷◌, Some}
+use Rattle.std.specs.Prelude.{◌≡◌, ◌≢◌, ℕ, Bool, true, false, List, [], ◌∷◌, ◌++◌, Some}
 use Rattle.hb_base.specs.declared.cause.Cause.{Cause}
 use Rattle.hb_base.specs.declared.cause.Cause.TheVariants as cause
 use Rattle.hb_base.specs.declared.door.Door.TheVariants as door
@@ -9,9 +9,12 @@ use Rattle.hb_captured.specs.Answer as answer
 use Rattle.hb_captured.specs.Answer.{Routing, answer_on}
 use Rattle.hb_front.specs.Reading.{Seen}
 use Rattle.hb_gateway.specs.Key.{Key}
+use Rattle.hb_gateway.specs.Sides.{came_on}
 use Rattle.hb_model.specs.Messages.{held}
 use Rattle.hb_model.specs.declared.config.NodeConfig.{NodeConfig}
-use Rattle.hb_proxy.specs.Points.{Point, control_of}
+use Rattle.hb_proxy.specs.Points.{Point, entries, control_of, gates_of}
+use Rattle.hb_proxy.specs.Streams as streams
+use Rattle.hb_world.specs.Trace.{sent}
 use Rattle.hb_world.specs.declared.entry.Entry.{Entry}
 use Rattle.hb_world.specs.declared.entry.Entry.TheVariants as e
 use Rattle.hb_laws.specs.Refused.{Refused, dials, fails, waits}
@@ -71,7 +74,31 @@ abbrev pub KeepsEndedGateway : Type 0
 KeepsEndedGateway = (to : Target) (came : List ℕ)
     → Refused (λ g. dials g ∷ accepts_outbound ∷ e.Came 2 came ∷ e.Dialled 3 to (whys.Gateway 2) ∷ e.Opened 3 ∷ e.Ended 3 ∷ waits ∷ [])
 
--- PLACES: a link is dialled straight though its way leads by a gateway
+-- PLACES: a byte goes on a link though all that came on its stream went already; or another one came next there. `Relays` refuses both
+pub record GoesUnbrought (g : NodeConfig) (before : List Point) (z : Entry) : Type 0 where
+  pub link : ℕ
+  pub gate : ℕ
+  pub stream : ℕ
+  pub byte : ℕ
+  pub more : List ℕ
+  pub goes : z ≡ e.Went link (byte ∷ more)
+  pub asked : streams.IsAsked before link gate stream
+  pub all_went : sent link (entries before) ≡ came_on stream (gates_of gate before)
+
+pub record ChangesBrought (g : NodeConfig) (before : List Point) (z : Entry) : Type 0 where
+  pub link : ℕ
+  pub gate : ℕ
+  pub stream : ℕ
+  pub byte : ℕ
+  pub other : ℕ
+  pub rest : List ℕ
+  pub more : List ℕ
+  pub goes : z ≡ e.Went link (other ∷ more)
+  pub asked : streams.IsAsked before link gate stream
+  pub came : came_on stream (gates_of gate before) ≡ sent link (entries before) ++ byte ∷ rest
+  pub differs : byte ≢ other
+
+-- a link is dialled straight though its way leads by a gateway
 pub record DialsRound (g : NodeConfig) (before : List Point) (z : Entry) : Type 0 where
   pub link : ℕ
   pub up : ℕ

@@ -20,7 +20,7 @@ ghost use Rattle.hb_laws.specs.RefusedPlain.{KeepsEndedPlain, KeepsRevokedPlain,
 ghost use Rattle.hb_laws.specs.RefusedGateways.{DialsForPlain as GatewayForPlain, DialsUnasked as GatewayUnasked};
 ghost use Rattle.hb_laws.specs.RefusedGateways.{DialsUntold as GatewayUntold, WritesUnopened as GatewayUnopened, WritesNoFront};
 ghost use Rattle.hb_laws.specs.RefusedGateways.{InventsBytes, ShutsGateway, ClosesGateway, DialsRound};
-ghost use Rattle.hb_laws.specs.RefusedGateways.{KeepsBrokenGateway, KeepsEndedGateway};
+ghost use Rattle.hb_laws.specs.RefusedGateways.{KeepsBrokenGateway, KeepsEndedGateway, GoesUnbrought, ChangesBrought};
 ghost use Rattle.hb_laws.specs.RefusedOutbound.{DialsAsPlain, DialsAsDirect, DialsUntold, RelaysUntold};
 ghost use Rattle.hb_laws.specs.RefusedOutbound.{DialsUnrouted, DialsAstray, ClosesUpdated, ClosesRevoked};
 ghost use Rattle.hb_laws.specs.Good.{GoodTraceIsLawful, GoodLinkIsLawful, GoodEndIsLawful, GoodPlainIsLawful, GoodRefusalIsLawful};
@@ -155,6 +155,12 @@ pub fn plain_links_are_refused_by_one_law()
     ensures changes_forth { RefusedBy Relays ChangesForth }
     ensures back_uncome { RefusedBy Relays RelaysBackUncome }
     ensures changes { RefusedBy Relays ChangesBack }
+{}
+
+/// It refuses alone that a byte goes on a link which its gateway didn't bring on its stream, or where it brought another one next.
+pub fn links_by_gateways_are_refused_by_one_law()
+    ensures unbrought { RefusedBy Relays GoesUnbrought }
+    ensures changes { RefusedBy Relays ChangesBrought }
 {}
 
 /// These laws let two upstreams be dialled for two streams, and the first of two bytes go that came from an upstream.
