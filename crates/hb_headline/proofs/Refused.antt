@@ -2,6 +2,9 @@
 use Rattle.std.proofs.Common.{◌≡◌, ⊎_elim, ℕ, ◌==◌, ◌||◌, Bool, true, false, cond, List, [], ◌∷◌, ◌++◌, length, drop, map, Result, Ok, refl, ap, sym, ◌∙◌, subst, arith}
 use Rattle.std.specs.List.{flat_map, AllByRecursion}
 use Rattle.std.proofs.lemmas.Bool.{false≢true, eqb-true, eq-eqb}
+use Rattle.std.specs.Cmp.Lexicographic.{slice_cmp}
+use Rattle.std.specs.FinMap.{len, len-empty}
+use Rattle.std.specs.Ordering.{nat_cmp}
 use Rattle.hb_base.specs.declared.door.Door.TheVariants as door
 use Rattle.hb_base.specs.declared.door.Why.TheVariants as whys
 use Rattle.hb_disco.specs.Response.{response_of}
@@ -18,7 +21,6 @@ use Rattle.hb_model.specs.declared.config.NodeConfig.{NodeConfig}
 use Rattle.hb_outgoing.specs.Written.{begun_in}
 use Rattle.hb_proxy.specs.Owners.{nobody, inbound_link, upstream_of}
 use Rattle.hb_table.specs.Judgement.{judged}
-use Rattle.hb_table.specs.declared.judgement.Judged.TheVariants.{Unknown, Admitted}
 use Rattle.hb_world.specs.Trace.{recv}
 use Rattle.hb_world.specs.declared.entry.Entry.{Entry}
 use Rattle.hb_world.specs.declared.entry.Entry.TheVariants as e
@@ -93,10 +95,8 @@ dials_elsewhere to other apart g met =
 none_admitted : (g : NodeConfig) (applied : List Applied) (trace : List Entry) (l s u : ℕ) → applied ≡ []
     → Admits (made_by g applied) trace l s u → ⊥
 none_admitted g applied trace l s u none is =
-    let no : Unknown ≡ Admitted =
-    sym (nobody_admitted g.network g.node g.doors (peer_in is.seen) is.to)
-    ∙ ap (λ (some : List Applied). judged (made_by g some) (peer_in is.seen) is.to) (sym none) ∙ is.admitted in
-    cc
+    nobody_admitted (made_by g applied) (peer_in is.seen) is.to
+    (ap (λ (some : List Applied). len (made_by g some).addresses) none ∙ len-empty (slice_cmp nat_cmp) _) is.admitted
 
 none_applied : (trace : List Entry) (applied : List Applied) → ((d : ℕ) → IsControl d trace → ⊥) → AreTold trace applied → applied ≡ []
 none_applied trace [] none told = refl

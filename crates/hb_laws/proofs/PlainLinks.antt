@@ -10,7 +10,7 @@ use Rattle.hb_base.specs.declared.door.Door.{Door}
 use Rattle.hb_base.specs.declared.door.Door.TheVariants as door
 use Rattle.hb_captured.specs.Answer.{Answer, Routing, straight_to, through, key_for, aims, refuses, refused_with, by_verdict, by_way, answer_on, verdict_on, way_on}
 use Rattle.hb_captured.specs.Captured.{judges}
-use Rattle.hb_captured.specs.Part.{Part, entry, up, welcomed, crowded, lacked, misfronted, fronted, refused, accepted, roomless, asked, hears, put, loosed, completed, done, applied, stopped}
+use Rattle.hb_captured.specs.Part.{Part, entry, up, welcomed, crowded, lacked, misfronted, fronted, refused, accepted, roomless, asked, hears, loosed, completed, done, applied, stopped}
 use Rattle.hb_captured.specs.Ends.{EndLaw, EndsAt}
 use Rattle.hb_captured.specs.Runs as plain
 use Rattle.hb_captured.specs.Runs.{Local, MayGo}

@@ -4,6 +4,7 @@ use Rattle.std.proofs.lemmas.List.{append-nil}
 use Rattle.hb_audit.specs.Tells.{Answering}
 use Rattle.hb_base.specs.declared.cause.Cause.{Cause}
 use Rattle.hb_base.specs.declared.note.Note.{Note}
+use Rattle.hb_headline.proofs.Headline.{keeps_the_headline}
 use Rattle.hb_proxy.specs.Notes.{notes as notes_of}
 use Rattle.hb_model.specs.declared.config.NodeConfig.{NodeConfig}
 use Rattle.hb_model.proofs.Inner.{over_is}
@@ -25,7 +26,7 @@ use Rattle.hb_whole.specs.declared.proxy.Proxy.{Proxy}
 use Rattle.hb_world.specs.declared.entry.Entry.{Entry}
 use Rattle.hb_world.specs.declared.entry.Entry.TheVariants as e
 use Rattle.hb_laws.specs.Lawful.{GoesOn}
-use Rattle.hb_serve.specs.Served.{StandsAs, AreLawful, HasNotes, Serves, heard_of, words_of}
+use Rattle.hb_serve.specs.Served.{StandsAs, AreLawful, KeepsHeadline, HasNotes, Serves, heard_of, words_of}
 use Rattle.hb_serve.specs.declared.words.ServeWords.{ServeWords}
 use Rattle.hb_laws.proofs.Runs.{run_is_lawful}
 use Rattle.hb_serve.proofs.Along.{served_along}
@@ -62,6 +63,13 @@ are_lawful g ends.NoMemory trace s = (s.front, s.last, s.trace_is, goes_on g s.n
 are_lawful g ends.Stopped trace s = goes_on g s.0 s.1 trace s.2 s.3
 are_lawful g ends.WorldFault trace s = goes_on g s.0 s.1 trace s.2 s.3
 are_lawful g ends.TurnsSpent trace s = at_rest g s.0 s.1 trace s.2 s.3 s.4
+
+-- so they meet the headline
+headline_of : (g : NodeConfig) (end : ServeEnd) (trace : List Entry) → AreLawful g end trace → KeepsHeadline g end trace
+headline_of g ends.NoMemory trace a = (a.0, a.1, a.2, keeps_the_headline g a.0 a.3.lawful)
+headline_of g ends.Stopped trace a = keeps_the_headline g trace a.lawful
+headline_of g ends.WorldFault trace a = keeps_the_headline g trace a.lawful
+headline_of g ends.TurnsSpent trace a = keeps_the_headline g trace a.0.lawful
 
 -- where none waits, those that were taken are all
 all_taken : (taken : List Note) (waits : Option (List Note)) (points : List Point) → whole.AreNotes taken waits points
@@ -108,6 +116,7 @@ module _ {A : Type 0} (answers : Answering A) {N : Type 0} (f : N → Proxy) (h 
           proxy = f n;
           run = along;
           settled = settled g trace along.settled;
+          headline = headline_of g served.end along.over.before (are_lawful g served.end along.over.before along.over.stood_for);
           lawful = are_lawful g served.end along.over.before along.over.stood_for;
           noted = λ ends kept. let t = run.noted ends kept in
               record {

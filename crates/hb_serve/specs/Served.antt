@@ -5,6 +5,7 @@ use Rattle.hb_audit.specs.Tells as audits
 use Rattle.hb_audit.specs.Tells.{Answering}
 use Rattle.hb_base.specs.declared.note.Note.{Note}
 use Rattle.hb_captured.specs.Calm as captured
+use Rattle.hb_headline.specs.Headline.{Headline}
 use Rattle.hb_inbound.specs.Calm as inbound
 use Rattle.hb_model.specs.Runs as model
 use Rattle.hb_proxy.specs.Machine.{Machine}
@@ -58,6 +59,12 @@ AreLawful g ends.TurnsSpent trace = (on : GoesOn g trace) × IsAtRest on.lawful.
 AreLawful g ends.NoMemory trace = (front : List Entry) × (last : Option Entry) × (trace ≡ front ++ option_to_list last) × GoesOn g front
 AreLawful g _ trace = GoesOn g trace
 
+-- the headline holds of these entries; where memory lacked, of all but at most the last
+abbrev pub KeepsHeadline : NodeConfig → ServeEnd → List Entry → Type 0
+KeepsHeadline g ends.NoMemory trace =
+    (front : List Entry) × (last : Option Entry) × (trace ≡ front ++ option_to_list last) × Headline g front
+KeepsHeadline g _ trace = Headline g trace
+
 -- all that was done is lawful, and these are all notes of it
 pub record HasNotes (g : NodeConfig) (notes : List Note) (trace : List Entry) : Type 0 where
   pub lawful : Lawful g trace
@@ -80,7 +87,10 @@ pub record IsServed (words : ServeWords) (served : Served) (keep : Option (List 
   pub run : turns.IsServed (StandsAs words.config) shown_of (words_of words) served (turns.leaves keep proxy) trace
   -- at each wait the machine is settled: nothing is left to be done but what sleeps
   pub settled : SettledLaw words.config trace
-  -- in front of the closes at its end the trace is lawful
+  -- in front of the closes at its end the headline holds: bytes of tunnels are prefixes of those that came on the other side, and go where
+  -- what is held then admits the peer alone
+  pub headline : KeepsHeadline words.config served.end run.over.before
+  -- and the trace is lawful
   pub lawful : AreLawful words.config served.end run.over.before
   -- unless memory lacked, the notes that are kept are all that there are, and the totals are those of the trace and of all its notes
   pub noted : (served.end ≡ ends.NoMemory → ⊥) → served.unkept ≡ false → IsTotalled words.config keep served.totals trace
