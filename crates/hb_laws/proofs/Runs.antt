@@ -20,6 +20,10 @@ use Rattle.hb_proxy.specs.Machine.{Machine}
 use Rattle.hb_proxy.specs.Points.{Point}
 use Rattle.hb_proxy.specs.Runs.{StandsFor}
 use Rattle.hb_laws.specs.Lawful.{Laws, RunsAreLawful}
+use Rattle.hb_laws.proofs.ClosesRun.{runs_close}
+use Rattle.hb_laws.proofs.Dialled.{runs_dial_gates}
+use Rattle.hb_laws.proofs.Opens.{runs_read, runs_open}
+use Rattle.hb_laws.proofs.Routes.{runs_route, runs_fit}
 
 -- each front of a run is one
 pub front_runs : (g : NodeConfig) (m : Machine) (points : List Point) → StandsFor g m points → (before after : List Point)
@@ -36,7 +40,10 @@ laws_at g x points stands = record {
   relay = runs_relay g x points stands;
   links = λ l. obey_links g x points l stands;
   plain = λ l. obey_plain g x points l stands;
+  rings = λ l. runs_fit g x points l stands;
   gates = λ n. obey_gates g x points n stands;
+  gate_closes = λ n. runs_close g x points n stands;
+  gate_headers = λ n. runs_read g x points n stands;
   control = obey_control g x points stands;
   held = λ l. links_hold g x points l stands;
   plain_held = λ l. plain_holds g x points l stands;
@@ -55,6 +62,9 @@ run_is_lawful g x points trace stands is = record {
   parts_access = runs_admit g x points stands;
   ends = runs_end g x points stands;
   pool = runs_take g x points stands;
+  gate_dials = runs_dial_gates g x points stands;
+  routes = runs_route g x points stands;
+  opens = runs_open g x points stands;
   limits = λ before after are. obey_limits g before;
   dials = runs_dial g x points stands;
   at_entries = obey_entries g x points stands;

@@ -22,6 +22,9 @@ use Rattle.hb_proxy.specs.Runs.{StandsFor}
 use Rattle.hb_proxy.specs.Sides.{SideLaw}
 use Rattle.hb_proxy.specs.Streams.{PoolLaw}
 use Rattle.hb_world.specs.declared.entry.Entry.{Entry}
+use Rattle.hb_laws.specs.Closes.{CloseLaw}
+use Rattle.hb_laws.specs.Gateways.{GateDialLaw, HeaderLaw, OpenLaw}
+use Rattle.hb_laws.specs.Routes.{RouteLaw, RingLaw}
 
 -- what is held at an inbound link is what the control plane's responses make
 abbrev pub LinkHolds : NodeConfig → ℕ → List Point → Type 0
@@ -42,8 +45,13 @@ pub record Laws (g : NodeConfig) (points : List Point) : Type 0 where
   pub links : (l : ℕ) → LinkLaws (at_start g) l (parts_of l points)
   -- and of each plain one: its relay, access, ends, verdicts and notes, and that nothing is put off
   pub plain : (l : ℕ) → PlainLaws (at_start g) l (plain_of l points)
+  -- what waits on each way of a plain link fits the ring of its door
+  pub rings : (l : ℕ) → RingLaw (plain_of l points)
   -- and of each link to a gateway: its connection and windows, the streams that are asked for, the bytes that are brought, put and counted
   pub gates : (n : ℕ) → GateLaws (gates_of n points)
+  -- it is closed for the first cause that ended it, and the headers of its looks at frames are those that its connection read
+  pub gate_closes : (n : ℕ) → CloseLaw (gates_of n points)
+  pub gate_headers : (n : ℕ) → HeaderLaw (gates_of n points)
   -- the laws of the links to the control plane: their calls, messages, connections, requests, frames and windows
   pub control : ControlLaws g (control_of points)
   pub held : (l : ℕ) → LinkHolds g l points
@@ -72,6 +80,11 @@ pub record Lawful (g : NodeConfig) (trace : List Entry) : Type 0 where
   pub ends : EndLaw g points
   -- a tunnel takes the link to its gateway that was born first of those with room, and another one is dialled only where there is none
   pub pool : PoolLaw g points
+  -- a link to a gateway is dialled at the gateway of the key by which the way of its plain link leads; each way goes by the node's port and
+  -- by how many connections each endpoint has then; a tunnel opens at a status from 200 to 299 and at nothing else
+  pub gate_dials : GateDialLaw points
+  pub routes : RouteLaw g points
+  pub opens : OpenLaw points
   -- at each front of the run, never more links and tunnels than may be
   pub limits : AtFronts (LimitLaw g) points
   -- the control plane is dialled exactly when it is due; its links end for their first cause, and what came on them is looked at first

@@ -1,3 +1,5 @@
+pub mod Closes
+pub mod Gateways
 pub mod Good
 pub mod Lawful
 pub mod Refused
@@ -7,5 +9,7 @@ pub mod RefusedLinks
 pub mod RefusedOutbound
 pub mod RefusedPlain
 pub mod RefusedRings
+pub mod RefusedRoutes
 pub mod RefusedTunnels
 pub mod RefusedWindows
+pub mod Routes

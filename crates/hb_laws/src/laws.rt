@@ -30,6 +30,13 @@ ghost use Rattle.hb_laws.specs.RefusedWindows.{GateGoesBeyond};
 ghost use Rattle.hb_laws.specs.RefusedRings.{RefusedFront, KeepsMoreUp, KeepsMorePlain, ComesBeyondRing};
 ghost use Rattle.hb_laws.specs.RefusedHearing.{HearsNoGoaway, HearsNoReset, HearsNoNotFound, HearsNoEnd, HearsNoEndOfHeaders};
 ghost use Rattle.hb_laws.specs.RefusedHearing.{KeepsReset, KeepsEndOfStream, KeepsEndAtOnce, KeepsNotFound};
+ghost use Rattle.hb_laws.specs.RefusedRoutes.{DialsGateAstray, TriesGateAstray, DialsForOtherKey, DialsForNoKey, DialsByItsKey};
+ghost use Rattle.hb_laws.specs.RefusedRoutes.{RoutesByOtherPort, RefusesByOtherPort, RoutesUncounted, RoutesByEnded, RoutesByCounts};
+ghost use Rattle.hb_laws.specs.RefusedRoutes.{OpensAt403, OpensAtInterim, OpensUnanswered, OpensFailed, FailsAt200, OpensAt200, FailsAt403};
+ghost use Rattle.hb_laws.specs.RefusedRoutes.{ReadsUnread, ClosesHealthyGate, ClosesGateForSecond, ClosesEndedAsBroken, ClosesGateTwice};
+ghost use Rattle.hb_laws.specs.RefusedRoutes.{ReadsEndedGate, AsksEndedGate, WritesGateTwice, ClosesBrokenGate, WritesGateOnce};
+ghost use Rattle.hb_laws.specs.RefusedRoutes.{OverrunsPlain, OverrunsPlainBack, OverrunsOutbound, OverrunsOutboundBack};
+ghost use Rattle.hb_laws.specs.RefusedRoutes.{FillsPlain, FillsOutboundBack};
 ghost use Rattle.hb_laws.specs.Refused.{ReadsUnopened, ReadsBehindEnd, ReadsBehindClose, WritesUnopened, FinishesOpened};
 
 /// The trace of every run of the whole proxy is lawful.
@@ -258,4 +265,69 @@ pub fn good_traces_are_lawful()
     ensures plain { GoodPlainIsLawful }
     ensures refusal { GoodRefusalIsLawful }
     ensures unsynced { GoodUnsyncedIsLawful }
+{}
+
+/// The law of dials of gateways refuses a run in which a link to a gateway is dialled at another address than that of its key, also where
+/// the dial fails; for another key than that by which the way of its plain link leads; or for a link that goes straight.
+pub fn gateways_dialled_astray_are_refused()
+    ensures astray { DialsGateAstray }
+    ensures tried { TriesGateAstray }
+    ensures key { DialsForOtherKey }
+    ensures straight { DialsForNoKey }
+{}
+
+/// The law of ways refuses one that goes by another port of gateways than the node's, also where the link is refused; one that counts no
+/// connection where a link is one; and one that counts a link that ended.
+pub fn other_routings_are_refused()
+    ensures port { RoutesByOtherPort }
+    ensures refused { RefusesByOtherPort }
+    ensures uncounted { RoutesUncounted }
+    ensures ended { RoutesByEnded }
+{}
+
+/// The law of openings refuses a tunnel by a gateway that opens at a status of 403, at one below 200, with no answer, or behind its
+/// failure; and one that fails at 200. The law of headers refuses those that the connection of the link didn't read.
+pub fn other_openings_are_refused()
+    ensures forbidden { OpensAt403 }
+    ensures interim { OpensAtInterim }
+    ensures unanswered { OpensUnanswered }
+    ensures failed { OpensFailed }
+    ensures fails { FailsAt200 }
+    ensures unread { ReadsUnread }
+{}
+
+/// The law of closes refuses a link to a gateway that is closed though nothing ended it, for another cause than the first, as broken though
+/// its gateway sends no more, or twice; one that is read, or on which a tunnel is asked for, behind its end; and a second write behind a
+/// connection error.
+pub fn other_closes_of_gateways_are_refused()
+    ensures healthy { ClosesHealthyGate }
+    ensures second { ClosesGateForSecond }
+    ensures ended { ClosesEndedAsBroken }
+    ensures twice { ClosesGateTwice }
+    ensures reads { ReadsEndedGate }
+    ensures asks { AsksEndedGate }
+    ensures writes { WritesGateTwice }
+{}
+
+/// The law of rings refuses one octet beyond each ring of a plain link: 65,536 on the way up and 16,385 on the way down at the plain door,
+/// and the other way round at the outbound one.
+pub fn overrun_rings_are_refused()
+    ensures plain { OverrunsPlain }
+    ensures plain_back { OverrunsPlainBack }
+    ensures outbound { OverrunsOutbound }
+    ensures outbound_back { OverrunsOutboundBack }
+{}
+
+/// These laws let a link to a gateway be dialled at the address of its key; a way that goes by the node's port and counts the one link
+/// that is a connection; a tunnel that opens at 200 and one that fails at 403; a link to a gateway that is closed as broken, and one that
+/// is written once behind a connection error; and a ring that is full.
+pub fn good_ways_may_go()
+    ensures dials { DialsByItsKey }
+    ensures routes { RoutesByCounts }
+    ensures opens { OpensAt200 }
+    ensures fails { FailsAt403 }
+    ensures closes { ClosesBrokenGate }
+    ensures writes { WritesGateOnce }
+    ensures fills { FillsPlain }
+    ensures fills_back { FillsOutboundBack }
 {}
