@@ -35,7 +35,7 @@ use Rattle.hb_world.specs.Trace.{recv, sent}
 use Rattle.hb_world.specs.declared.entry.Entry.{Entry}
 use Rattle.hb_world.specs.declared.entry.Entry.TheVariants as e
 use Rattle.hb_laws.specs.RefusedTunnels.{RefusedAt}
-use Rattle.hb_laws.specs.RefusedWindows.{BeginsLast, IsBeyond, GoesBeyond, ControlGoesBeyond, LastOctetFits, LinkGoesBeyond, PlaneGoesBeyond, GateGoesBeyond}
+use Rattle.hb_laws.specs.RefusedWindows.{BeginsLast, IsBeyond, GoesBeyond, ControlGoesBeyond, PassesConnection, PassesStream, PassesFrame, LastOctetFits, LinkGoesBeyond, PlaneGoesBeyond, GateGoesBeyond}
 use Rattle.hb_laws.proofs.BegunFrames.{Left, all_left}
 use Rattle.hb_laws.proofs.Lawful.{goes_at, own_in, laws_of}
 use Rattle.hb_laws.proofs.Places.{of_plane, of_inbound, of_gateway}
@@ -192,6 +192,15 @@ control_goes_beyond l before bytes front frame control last beyond law =
     not_beyond frame front (frames_got (point.moves l before))
     (last_fits Client (point.moves l before) (point.tellings l before) (recv l es) (sent l es) is.conn is.stands bytes is.rest is.first
     is.fit front frame last) beyond
+
+pub passes_connection : PassesConnection
+passes_connection payload is = (omega (arith, is), omega (arith, is), λ fits. absurd (omega (arith, is, fits)))
+
+pub passes_stream : PassesStream
+passes_stream = (omega arith, omega arith, λ fits. absurd (omega (arith, fits)))
+
+pub passes_frame : PassesFrame
+passes_frame payload is = (omega (arith, is), omega (arith, is), λ fits. absurd (omega (arith, is, fits)))
 
 pub last_octet_fits : LastOctetFits
 last_octet_fits front frame size all one =

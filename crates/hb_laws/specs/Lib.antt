@@ -13,3 +13,4 @@ pub mod RefusedRoutes
 pub mod RefusedTunnels
 pub mod RefusedWindows
 pub mod Routes
+pub mod TriedAlone

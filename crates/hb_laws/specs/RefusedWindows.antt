@@ -11,6 +11,7 @@ use Rattle.hb_history.specs.Sending.{increments}
 use Rattle.hb_inbound.specs.Connections.{WindowLaw}
 use Rattle.hb_inbound.specs.Part as part
 use Rattle.hb_inbound.specs.Part.{Part, moves}
+use Rattle.hb_inbound.specs.RelayRefused.{one_octet}
 use Rattle.hb_inbound.specs.Sides.{link_went}
 use Rattle.hb_model.specs.Calls.{IsControl}
 use Rattle.hb_model.specs.Point as point
@@ -23,6 +24,7 @@ use Rattle.hb_proxy.specs.Points.{Point, entries, control_of, parts_of, gates_of
 use Rattle.hb_world.specs.Trace.{sent}
 use Rattle.hb_world.specs.declared.entry.Entry.{Entry}
 use Rattle.hb_world.specs.declared.entry.Entry.TheVariants as e
+use Rattle.hb_laws.specs.RefusedTunnels.{data_frame}
 
 -- with these bytes whole frames went behind an opening, and the last of them, DATA with payload, begins with these bytes
 pub record BeginsLast (opening went bytes : List ℕ) (front : List RawFrame) (frame : RawFrame) : Type 0 where
@@ -48,6 +50,42 @@ abbrev pub ControlGoesBeyond : Type 0
 ControlGoesBeyond = (l : ℕ) (before : List point.Point) (bytes : List ℕ) (front : List RawFrame) (frame : RawFrame)
     → IsControl l (point.entries before) → BeginsLast octets (sent l (point.entries before)) bytes front frame
     → IsBeyond frame front (frames_got (point.moves l before)) → control.WindowLaw (before ++ point.entry (e.Went l bytes) ∷ []) → ⊥
+
+-- the three bounds apart
+abbrev pub FitsConnection : RawFrame → (front got : List RawFrame) → Type 0
+FitsConnection frame front got = data_size None front + length frame.payload ≤ first_size + increments 0 got
+
+abbrev pub FitsStream : RawFrame → (front got : List RawFrame) → Type 0
+FitsStream frame front got =
+    data_size (Some frame.stream) front + length frame.payload ≤ initial_size front got + increments frame.stream got
+
+abbrev pub FitsFrame : RawFrame → Type 0
+FitsFrame frame = length frame.payload ≤ first_frame_size
+
+-- a fourth frame of 16,384 octets, each on a stream of its own, is an octet beyond the connection's window, and within all else
+abbrev pub three : List ℕ → List RawFrame
+three payload = data_frame 0 1 payload ∷ data_frame 0 3 payload ∷ data_frame 0 5 payload ∷ []
+
+abbrev pub PassesConnection : Type 0
+PassesConnection = (payload : List ℕ) → length payload ≡ 16384 → let fourth = data_frame 0 7 payload in
+    FitsFrame fourth × FitsStream fourth (three payload) [] × (FitsConnection fourth (three payload) [] → ⊥)
+
+-- one octet is an octet beyond a stream's window of 0, which SETTINGS set that are acknowledged
+abbrev pub none_granted : RawFrame
+none_granted = record { kind = 4; flags = 0; stream = 0; payload = 0 ∷ 4 ∷ 0 ∷ 0 ∷ 0 ∷ 0 ∷ [] }
+
+abbrev pub ack : RawFrame
+ack = record { kind = 4; flags = 1; stream = 0; payload = [] }
+
+abbrev pub PassesStream : Type 0
+PassesStream =
+    FitsFrame one_octet × FitsConnection one_octet (ack ∷ []) (none_granted ∷ [])
+    × (FitsStream one_octet (ack ∷ []) (none_granted ∷ []) → ⊥)
+
+-- and 16,385 octets are one more than the largest frame has
+abbrev pub PassesFrame : Type 0
+PassesFrame = (payload : List ℕ) → length payload ≡ 16385 → let frame = data_frame 0 1 payload in
+    FitsConnection frame [] [] × FitsStream frame [] [] × (FitsFrame frame → ⊥)
 
 -- exactly as much as is granted fits: the last octet of 65,535 on the connection, and on the stream where no SETTINGS came
 abbrev pub LastOctetFits : Type 0

@@ -26,7 +26,8 @@ ghost use Rattle.hb_laws.specs.RefusedOutbound.{DialsUnrouted, DialsAstray, Clos
 ghost use Rattle.hb_laws.specs.Good.{GoodTraceIsLawful, GoodLinkIsLawful, GoodEndIsLawful, GoodPlainIsLawful, GoodRefusalIsLawful};
 ghost use Rattle.hb_laws.specs.Good.{GoodUnsyncedIsLawful};
 ghost use Rattle.hb_laws.specs.RefusedWindows.{GoesBeyond, ControlGoesBeyond, LastOctetFits, LinkGoesBeyond, PlaneGoesBeyond};
-ghost use Rattle.hb_laws.specs.RefusedWindows.{GateGoesBeyond};
+ghost use Rattle.hb_laws.specs.RefusedWindows.{GateGoesBeyond, PassesConnection, PassesStream, PassesFrame};
+ghost use Rattle.hb_laws.specs.TriedAlone.{MayBeTried};
 ghost use Rattle.hb_laws.specs.RefusedRings.{RefusedFront, KeepsMoreUp, KeepsMorePlain, ComesBeyondRing};
 ghost use Rattle.hb_laws.specs.RefusedHearing.{HearsNoGoaway, HearsNoReset, HearsNoNotFound, HearsNoEnd, HearsNoEndOfHeaders};
 ghost use Rattle.hb_laws.specs.RefusedHearing.{KeepsReset, KeepsEndOfStream, KeepsEndAtOnce, KeepsNotFound};
@@ -170,6 +171,22 @@ pub fn links_by_gateways_are_refused_by_one_law()
     ensures changes { RefusedBy Relays ChangesBrought }
 {}
 
+/// Each of these places, but for those by a gateway, may stand behind points that obey the law which refuses it.
+pub fn places_may_be_tried()
+    ensures up_twice { MayBeTried DialsOnce DialsUpTwice }
+    ensures unheld { MayBeTried EntryLaw GoesUnheld }
+    ensures uncome { MayBeTried Relays GoesUncome }
+    ensures changes_up { MayBeTried Relays ChangesUp }
+    ensures invents { MayBeTried Relays InventsDown }
+    ensures changes { MayBeTried Relays ChangesDown }
+    ensures relay_twice { MayBeTried DialsOnce DialsRelayTwice }
+    ensures relay_unheld { MayBeTried EntryLaw RelaysUnheld }
+    ensures relay_uncome { MayBeTried Relays RelaysUncome }
+    ensures changes_forth { MayBeTried Relays ChangesForth }
+    ensures back_uncome { MayBeTried Relays RelaysBackUncome }
+    ensures changes_back { MayBeTried Relays ChangesBack }
+{}
+
 /// These laws let two upstreams be dialled for two streams, and the first of two bytes go that came from an upstream.
 pub fn good_places_obey_their_law()
     ensures dials { OnceMayBeDialled }
@@ -232,10 +249,14 @@ pub fn places_of_gateways_are_refused()
 {}
 
 /// The window law of an inbound link, and that of the links to the control plane, refuses alone that DATA begins an octet beyond the window
-/// of the connection, of its stream, or beyond the largest frame. The last octet within fits (RFC 9113 sections 4.2 and 6.9).
+/// of the connection, of its stream, or beyond the largest frame. Small lists of frames pass each of the three alone, by an octet. The last
+/// octet within fits (RFC 9113 sections 4.2 and 6.9).
 pub fn windows_are_not_passed()
     ensures link { GoesBeyond }
     ensures control { ControlGoesBeyond }
+    ensures connection { PassesConnection }
+    ensures stream { PassesStream }
+    ensures frame { PassesFrame }
     ensures fits { LastOctetFits }
 {}
 
