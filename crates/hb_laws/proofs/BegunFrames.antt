@@ -95,7 +95,7 @@ move_left begun c (wrote n) new told h is =
     (kept.payment_keeps (OfOut Q) (out_keeps Q (left_keeps (begun ++ begun_by n c.out))) calm (record c { out = written n c.out })
     (written_left begun c.out n h))
 
-runs_left : (points : List Point) (begun begins : List RawFrame) (c new : Core) → Left begun c.out → RunsWith c points begins new
+pub runs_left : (points : List Point) (begun begins : List RawFrame) (c new : Core) → Left begun c.out → RunsWith c points begins new
     → Left (begun ++ begins) new.out
 runs_left [] begun begins c new h is =
     subst (λ (fs : List RawFrame). Left fs new.out) (sym (append-nil begun) ∙ ap (λ (fs : List RawFrame). begun ++ fs) (sym is.1))

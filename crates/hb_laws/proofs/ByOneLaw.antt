@@ -193,7 +193,8 @@ module _ (before : List Point) (p : Point) where
         (down.rest, sym (recv_same u) ∙ down.front ∙ ap (λ (xs : List ℕ). xs ++ down.rest) (ap (payloads s) begun ∙ all))
 
 -- another byte is next
-pub other_next : (front rest more last : List ℕ) (byte other : ℕ) → byte ≢ other → front ++ byte ∷ rest ≡ (front ++ other ∷ more) ++ last → ⊥
+pub other_next : (front rest more last : List ℕ) (byte other : ℕ) → byte ≢ other
+    → front ++ byte ∷ rest ≡ (front ++ other ∷ more) ++ last → ⊥
 other_next front rest more last byte other differs is =
     let next : byte ∷ rest ≡ other ∷ (more ++ last) =
     append_cancel_left front (byte ∷ rest) (other ∷ (more ++ last)) (is ∙ append_assoc front (other ∷ more) last) in

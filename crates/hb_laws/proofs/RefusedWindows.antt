@@ -1,20 +1,24 @@
 -- DATA that begins beyond what the peer granted is refused.
-use Rattle.std.proofs.Common.{◌≡◌, ◌⊎◌, inl, inr, ⊎_elim, ℕ, ◌+◌, ◌<◌, ◌≤◌, true, List, [], ◌∷◌, ◌++◌, length, fold, filter, refl, ap, sym, ◌∙◌, subst, arith, length-append}
-use Rattle.std.proofs.lemmas.List.{append-nil, append_assoc, append_cancel_left, take-append-drop, take_all}
+use Rattle.std.proofs.Common.{◌≡◌, ◌⊎◌, inl, inr, ⊎_elim, ℕ, ◌+◌, ◌-◌, ◌<◌, ◌≤◌, true, List, [], ◌∷◌, ◌++◌, length, drop, fold, filter, refl, ap, ap₂, sym, ◌∙◌, subst, arith, length-append, length-drop}
+use Rattle.std.proofs.lemmas.List.{append-nil, append_assoc, append_cancel_left, take-append-drop, take_all, drop-append-le}
 use Rattle.std.proofs.lemmas.List.Concat.{flat_map-append}
-use Rattle.hb_conn.specs.Connection.{Connection}
+use Rattle.hb_conn.specs.Connection.{Connection, with_core}
 use Rattle.hb_conn.specs.Observed.{outgoing, output, frames_begun}
 use Rattle.hb_conn.specs.Preface.{octets}
 use Rattle.hb_conn.specs.declared.found.Found.{Found}
+use Rattle.hb_conn.specs.declared.found.Found.TheVariants.{Silent}
+use Rattle.hb_conn.specs.declared.machine.Core.{Core}
 use Rattle.hb_frames.specs.RawFrame.{RawFrame, spelling}
+use Rattle.hb_gateway.proofs.Grown.{one_more, none_more, more_moves}
 use Rattle.hb_gateway.proofs.Runs as gateway_runs
 use Rattle.hb_gateway.proofs.Runs.{all_keep}
-use Rattle.hb_gateway.specs.Connections.{front_went, conn_went}
+use Rattle.hb_gateway.specs.Connections.{front_went, conn_went, IsOneHistory}
 use Rattle.hb_gateway.specs.Part as gateway
-use Rattle.hb_history.proofs.Fitting.{data_fits}
-use Rattle.hb_history.specs.Fits.{acknowledges, initial_size, FitsWindows, AllFit}
-use Rattle.hb_history.specs.History.{opening, StandsFor}
-use Rattle.hb_history.specs.Points.{Point as HistoryPoint, frames_got}
+use Rattle.hb_history.proofs.Connections.{wrote_leaves}
+use Rattle.hb_history.proofs.Fitting.{data_fits, data_fits_everywhere}
+use Rattle.hb_history.specs.Fits.{acknowledges, initial_size, FitsWindows, AllFit, WritesWithin}
+use Rattle.hb_history.specs.History.{fresh, opening, StandsFor}
+use Rattle.hb_history.specs.Points.{Point as HistoryPoint, point as moved_by, wrote, frames_got}
 use Rattle.hb_history.specs.Sending.{size_with}
 use Rattle.hb_inbound.specs.Connections.{WindowsAt}
 use Rattle.hb_inbound.specs.Part as part
@@ -22,9 +26,10 @@ use Rattle.hb_inbound.specs.Part.{moves, tellings}
 use Rattle.hb_inbound.specs.Sides.{link_went, conn_came}
 use Rattle.hb_model.specs.Point as point
 use Rattle.hb_outgoing.proofs.Queues.{spelling_len}
-use Rattle.hb_outgoing.proofs.Sent.{all_is_spelled, begins_by_place}
+use Rattle.hb_outgoing.proofs.Sent.{all_is_spelled, begins_by_place, begun_is_enough}
 use Rattle.hb_outgoing.specs.Selected.{has_data}
 use Rattle.hb_outgoing.specs.Waiting.{Waiting, spelled}
+use Rattle.hb_outgoing.specs.Written.{begun_by, rest_after}
 use Rattle.hb_proxy.proofs.Gates.{gates_run}
 use Rattle.hb_proxy.proofs.Places.{at_parts}
 use Rattle.hb_proxy.specs.Points.{Point, of_control, entries, control_in, control_of, parts_of, gates_of}
@@ -35,8 +40,8 @@ use Rattle.hb_world.specs.Trace.{recv, sent}
 use Rattle.hb_world.specs.declared.entry.Entry.{Entry}
 use Rattle.hb_world.specs.declared.entry.Entry.TheVariants as e
 use Rattle.hb_laws.specs.RefusedTunnels.{RefusedAt}
-use Rattle.hb_laws.specs.RefusedWindows.{BeginsLast, IsBeyond, GoesBeyond, ControlGoesBeyond, PassesConnection, PassesStream, PassesFrame, LastOctetFits, LinkGoesBeyond, PlaneGoesBeyond, GateGoesBeyond}
-use Rattle.hb_laws.proofs.BegunFrames.{Left, all_left}
+use Rattle.hb_laws.specs.RefusedWindows.{BeginsLast, IsBeyond, GoesBeyond, ControlGoesBeyond, GateHistoryGoesBeyond, PassesConnection, PassesStream, PassesFrame, LastOctetFits, LinkGoesBeyond, PlaneGoesBeyond, GateGoesBeyond}
+use Rattle.hb_laws.proofs.BegunFrames.{Left, runs_left, all_left}
 use Rattle.hb_laws.proofs.Lawful.{goes_at, own_in, laws_of}
 use Rattle.hb_laws.proofs.Places.{of_plane, of_inbound, of_gateway}
 use Rattle.hb_laws.proofs.Spelled.{frames_read}
@@ -83,15 +88,14 @@ front_within (x ∷ front) (y ∷ before) more f last is =
 
 -- a frame of which no octet went hasn't begun
 not_begun : (w : Waiting) (begun front more : List RawFrame) (f : RawFrame) (opens went : List ℕ) → Left begun w
-    → went ++ w.rest ≡ opens ++ spelled begun → length went ≤ length (opens ++ spelled front) → begun ≡ front ++ f ∷ more → ⊥
+    → length went + length w.rest ≡ length opens + length (spelled begun) → length went ≤ length (opens ++ spelled front)
+    → begun ≡ front ++ f ∷ more → ⊥
 not_begun w begun front more f opens went (inl none) shows unbegun is =
     absurd (omega (arith, ap (λ (fs : List RawFrame). length fs) (sym none ∙ is), length-append front (f ∷ more)))
 not_begun w begun front more f opens went (inr (inl none)) shows unbegun is =
     absurd (omega (
       arith,
-      ap (λ (xs : List ℕ). length xs) shows,
-      length-append went w.rest,
-      length-append opens (spelled begun),
+      shows,
       length-append opens (spelled front),
       ap (λ (xs : List ℕ). length xs) none,
       unbegun,
@@ -102,9 +106,7 @@ not_begun w begun front more f opens went (inr (inl none)) shows unbegun is =
 not_begun w begun front more f opens went (inr (inr last)) shows unbegun is =
     absurd (omega (
       arith,
-      ap (λ (xs : List ℕ). length xs) shows,
-      length-append went w.rest,
-      length-append opens (spelled begun),
+      shows,
       length-append opens (spelled front),
       unbegun,
       ap (λ (fs : List RawFrame). length (spelled fs)) last.last,
@@ -167,8 +169,13 @@ module _ (role : Role) (points : List HistoryPoint) (given : List Found) (came w
           (fits_in stands.begun (frames_got points) mid begins.0 f
           (subst (λ (fs : List RawFrame). AllFit stands.begun (frames_got points) fs) begins.1 fit) last.payload)
       by (inr (g, more, is)) =
-          absurd (not_begun w stands.begun front more g (opening role) went (all_left role points given came went c stands) stands.shows
-          last.unbegun is)
+          absurd (not_begun w stands.begun front more g (opening role) went (all_left role points given came went c stands)
+          (omega (
+            arith,
+            ap (λ (xs : List ℕ). length xs) stands.shows,
+            length-append went w.rest,
+            length-append (opening role) (spelled stands.begun),
+          )) last.unbegun is)
 
 -- what fits isn't beyond
 not_beyond : (frame : RawFrame) (front got : List RawFrame) → FitsWindows frame front got → IsBeyond frame front got → ⊥
@@ -192,6 +199,97 @@ control_goes_beyond l before bytes front frame control last beyond law =
     not_beyond frame front (frames_got (point.moves l before))
     (last_fits Client (point.moves l before) (point.tellings l before) (recv l es) (sent l es) is.conn is.stands bytes is.rest is.first
     is.fit front frame last) beyond
+
+-- the history of a link to a gateway with the write
+module _ (n : ℕ) (before : List gateway.Part) (bytes : List ℕ) (front : List RawFrame) (f : RawFrame)
+    (gone : length (gateway.front_header before) ≤ length (gateway.link_went before)) (left : gateway.left_of before ≡ 0)
+    (last : BeginsLast octets (conn_went before) bytes front f)
+    (one : IsOneHistory (before ++ gateway.entry (e.Went n bytes) ∷ [])) where
+  abbrev write : gateway.Part
+  write = gateway.entry (e.Went n bytes)
+
+  abbrev m : ℕ
+  m = length bytes - gateway.left_of before
+
+  all_written : m ≡ length bytes
+  all_written = omega (arith, left)
+
+  moved : gateway.moves (before ++ write ∷ []) ≡ gateway.moves before ++ moved_by (wrote m) Silent ∷ []
+  moved = more_moves before write
+
+  went_behind : conn_went (before ++ write ∷ []) ≡ conn_went before ++ bytes
+  went_behind =
+      ap₂ (λ (xs ys : List ℕ). drop (length xs) ys) (none_more gateway.front_in before write refl) (one_more gateway.went_in before write)
+      ∙ drop-append-le (length (gateway.front_header before)) (gateway.link_went before) bytes gone
+
+  at : WritesWithin Client (gateway.moves before) [] m Silent one.stands.begun one.conn.receiver.core
+  at =
+      data_fits_everywhere Client (gateway.moves (before ++ write ∷ [])) (gateway.tellings (before ++ write ∷ []))
+      (gateway.link_came (before ++ write ∷ [])) (conn_went (before ++ write ∷ [])) one.conn one.stands (gateway.moves before) [] m Silent
+      moved
+
+  abbrev out : Waiting
+  out = at.core.out
+
+  begun_are : one.stands.begun ≡ at.front ++ begun_by m out
+  begun_are =
+      at.all ∙ ap (λ (fs : List RawFrame). at.front ++ fs)
+      (at.goes_on.3 ∙ ap (λ (fs : List RawFrame). begun_by m out ++ fs) at.goes_on.4.1 ∙ append-nil (begun_by m out))
+
+  left_of_it : (outgoing one.conn).rest ≡ rest_after m out
+  left_of_it =
+      ap (λ (c : Core). c.out.rest) (at.goes_on.4.0 ∙ at.goes_on.1.1.0) ∙ wrote_leaves (with_core (fresh Client) at.core) m
+
+  -- so what had begun before and what was left of it show what went
+  shown : length (conn_went before) + length out.rest ≡ length octets + length (spelled at.front)
+  shown =
+      let within : m - length out.rest ≤ length (spelled out.queue) =
+      omega (arith, at.goes_on.1.0, length-append out.rest (spelled out.queue)) in
+      omega (
+        arith,
+        all_written,
+        begun_is_enough (m - length out.rest) out.queue within,
+        ap (λ (xs : List ℕ). length xs) one.stands.shows,
+        length-append (conn_went (before ++ write ∷ [])) (outgoing one.conn).rest,
+        ap (λ (xs : List ℕ). length xs) went_behind,
+        length-append (conn_went before) bytes,
+        ap (λ (xs : List ℕ). length xs) left_of_it,
+        length-drop m (out.rest ++ spelled (begun_by m out)),
+        length-append out.rest (spelled (begun_by m out)),
+        length-append octets (spelled one.stands.begun),
+        ap (λ (fs : List RawFrame). length (spelled fs)) begun_are,
+        ap (λ (xs : List ℕ). length xs) (flat_map-append spelling at.front (begun_by m out)),
+        length-append (spelled at.front) (spelled (begun_by m out)),
+      )
+
+  gate_whole : spelled (front ++ f ∷ []) ++ (outgoing one.conn).rest ≡ spelled (at.front ++ begun_by m out)
+  gate_whole =
+      append_cancel_left octets (spelled (front ++ f ∷ []) ++ (outgoing one.conn).rest) (spelled (at.front ++ begun_by m out))
+      (sym (append_assoc octets (spelled (front ++ f ∷ [])) (outgoing one.conn).rest)
+      ∙ ap (λ (xs : List ℕ). xs ++ (outgoing one.conn).rest) (sym last.whole ∙ sym went_behind)
+      ∙ one.stands.shows ∙ ap (λ (fs : List RawFrame). octets ++ spelled fs) begun_are)
+
+  gate_fits : FitsWindows f front (frames_got (gateway.moves before))
+  gate_fits = by (joined at.front (begun_by m out) front (f ∷ read.0) (read.1 ∙ append_assoc front (f ∷ []) read.0))
+    where
+      read : (more : List RawFrame) × (at.front ++ begun_by m out ≡ (front ++ f ∷ []) ++ more)
+          × ((outgoing one.conn).rest ≡ spelled more)
+      read = frames_read (front ++ f ∷ []) (at.front ++ begun_by m out) (outgoing one.conn).rest gate_whole
+
+      by : ((mid : List RawFrame) × (front ≡ at.front ++ mid) × (begun_by m out ≡ mid ++ f ∷ read.0))
+          ⊎ ((g : RawFrame) × (more : List RawFrame) × (at.front ≡ front ++ g ∷ more))
+          → FitsWindows f front (frames_got (gateway.moves before))
+      by (inl (mid, front_is, begun_is)) =
+          subst (λ (fs : List RawFrame). FitsWindows f fs (frames_got (gateway.moves before))) (sym front_is)
+          (fits_in at.front (frames_got (gateway.moves before)) mid read.0 f
+          (subst (λ (fs : List RawFrame). AllFit at.front (frames_got (gateway.moves before)) fs) begun_is at.fit) last.payload)
+      by (inr (g, more, is)) =
+          absurd (not_begun out at.front front more g octets (conn_went before)
+          (runs_left (gateway.moves before) [] at.front (fresh Client).receiver.core at.core (inl refl) at.leads) shown last.unbegun is)
+
+pub gate_history_goes_beyond : GateHistoryGoesBeyond
+gate_history_goes_beyond n before bytes front frame gone left last beyond one =
+    not_beyond frame front (frames_got (gateway.moves before)) (gate_fits n before bytes front frame gone left last one) beyond
 
 pub passes_connection : PassesConnection
 passes_connection payload is = (omega (arith, is), omega (arith, is), λ fits. absurd (omega (arith, is, fits)))
@@ -246,7 +344,8 @@ plane_goes_beyond g trace before behind p z h are is so =
     not_beyond so.frame so.front (frames_got (point.moves l points))
     (last_fits Client (point.moves l points) (point.tellings l points) (recv l es) (sent l es) within.conn within.stands so.bytes
     within.rest within.first within.fit so.front so.frame
-    (begins_so octets (sent l (entries before)) (sent l es) so.bytes so.front so.frame (sides.control l known.owned).went so.last)) so.beyond
+    (begins_so octets (sent l (entries before)) (sent l es) so.bytes so.front so.frame (sides.control l known.owned).went so.last))
+    so.beyond
 
 -- behind a front header that went the octets are the connection's
 no_length : (xs : List ℕ) → length xs ≡ 0 → xs ≡ []
@@ -296,4 +395,5 @@ gate_goes_beyond g trace before behind p z h are is so =
     so.bytes may.3.0 first
     (data_fits Client (gateway.moves parts) (gateway.tellings parts) (gateway.link_came parts) (conn_went parts) x.conn keeps.stands
     (length so.bytes))
-    so.front so.frame (behind_header header (sent n (entries before)) (conn_went parts) so.bytes so.front so.frame parted so.last)) so.beyond
+    so.front so.frame (behind_header header (sent n (entries before)) (conn_went parts) so.bytes so.front so.frame parted so.last))
+    so.beyond

@@ -4,6 +4,7 @@ use Rattle.hb_conn.specs.Preface.{octets}
 use Rattle.hb_flow.specs.Windows.{first_size}
 use Rattle.hb_frames.specs.Numbers.{first_frame_size}
 use Rattle.hb_frames.specs.RawFrame.{RawFrame}
+use Rattle.hb_gateway.specs.Connections as gates
 use Rattle.hb_gateway.specs.Part as gateway
 use Rattle.hb_history.specs.Fits.{initial_size, FitsWindows}
 use Rattle.hb_history.specs.Points.{frames_got}
@@ -50,6 +51,13 @@ abbrev pub ControlGoesBeyond : Type 0
 ControlGoesBeyond = (l : ℕ) (before : List point.Point) (bytes : List ℕ) (front : List RawFrame) (frame : RawFrame)
     → IsControl l (point.entries before) → BeginsLast octets (sent l (point.entries before)) bytes front frame
     → IsBeyond frame front (frames_got (point.moves l before)) → control.WindowLaw (before ++ point.entry (e.Went l bytes) ∷ []) → ⊥
+
+-- so does the history of a link to a gateway, by its connection behind the front header, all of which went
+abbrev pub GateHistoryGoesBeyond : Type 0
+GateHistoryGoesBeyond = (n : ℕ) (before : List gateway.Part) (bytes : List ℕ) (front : List RawFrame) (frame : RawFrame)
+    → length (gateway.front_header before) ≤ length (gateway.link_went before) → gateway.left_of before ≡ 0
+    → BeginsLast octets (gates.conn_went before) bytes front frame → IsBeyond frame front (frames_got (gateway.moves before))
+    → gates.IsOneHistory (before ++ gateway.entry (e.Went n bytes) ∷ []) → ⊥
 
 -- the three bounds apart
 abbrev pub FitsConnection : RawFrame → (front got : List RawFrame) → Type 0

@@ -26,7 +26,7 @@ ghost use Rattle.hb_laws.specs.RefusedOutbound.{DialsUnrouted, DialsAstray, Clos
 ghost use Rattle.hb_laws.specs.Good.{GoodTraceIsLawful, GoodLinkIsLawful, GoodEndIsLawful, GoodPlainIsLawful, GoodRefusalIsLawful};
 ghost use Rattle.hb_laws.specs.Good.{GoodUnsyncedIsLawful};
 ghost use Rattle.hb_laws.specs.RefusedWindows.{GoesBeyond, ControlGoesBeyond, LastOctetFits, LinkGoesBeyond, PlaneGoesBeyond};
-ghost use Rattle.hb_laws.specs.RefusedWindows.{GateGoesBeyond, PassesConnection, PassesStream, PassesFrame};
+ghost use Rattle.hb_laws.specs.RefusedWindows.{GateGoesBeyond, GateHistoryGoesBeyond, PassesConnection, PassesStream, PassesFrame};
 ghost use Rattle.hb_laws.specs.TriedAlone.{MayBeTried};
 ghost use Rattle.hb_laws.specs.RefusedRings.{RefusedFront, KeepsMoreUp, KeepsMorePlain, ComesBeyondRing};
 ghost use Rattle.hb_laws.specs.RefusedHearing.{HearsNoGoaway, HearsNoReset, HearsNoNotFound, HearsNoEnd, HearsNoEndOfHeaders};
@@ -249,11 +249,12 @@ pub fn places_of_gateways_are_refused()
 {}
 
 /// The window law of an inbound link, and that of the links to the control plane, refuses alone that DATA begins an octet beyond the window
-/// of the connection, of its stream, or beyond the largest frame. Small lists of frames pass each of the three alone, by an octet. The last
-/// octet within fits (RFC 9113 sections 4.2 and 6.9).
+/// of the connection, of its stream, or beyond the largest frame; so does the history of a link to a gateway. Small lists of frames pass
+/// each of the three alone, by an octet. The last octet within fits (RFC 9113 sections 4.2 and 6.9).
 pub fn windows_are_not_passed()
     ensures link { GoesBeyond }
     ensures control { ControlGoesBeyond }
+    ensures gate { GateHistoryGoesBeyond }
     ensures connection { PassesConnection }
     ensures stream { PassesStream }
     ensures frame { PassesFrame }
