@@ -1,14 +1,10 @@
 -- More bytes that wait than a ring has room for are refused.
-use Rattle.std.proofs.Common.{⊎_elim, ℕ, List, [], ◌∷◌, length, refl, ap, sym, ◌∙◌, subst, arith, length-append}
-use Rattle.hb_captured.proofs.Kept.{all_keep}
-use Rattle.hb_captured.specs.Captured.{ring_up, ring_down}
-use Rattle.hb_captured.specs.Sides.{link_went, up_went}
+use Rattle.std.proofs.Common.{⊎_elim, ℕ, List, [], ◌∷◌, length, refl, ap, sym, ◌∙◌, subst, arith}
 use Rattle.hb_proxy.proofs.Owned.{all_owned}
-use Rattle.hb_proxy.proofs.Plain.{plain_runs}
 use Rattle.hb_proxy.proofs.Projection.{links_run}
 use Rattle.hb_proxy.specs.Held.{at_start}
-use Rattle.hb_proxy.specs.Machine.{local, plain_local}
-use Rattle.hb_proxy.specs.Points.{Point, parts_of, plain_of}
+use Rattle.hb_proxy.specs.Machine.{local}
+use Rattle.hb_proxy.specs.Points.{Point, parts_of}
 use Rattle.hb_proxy.specs.Runs.{Steps}
 use Rattle.hb_world.specs.declared.entry.Entry.{Entry}
 use Rattle.hb_world.specs.declared.entry.Entry.TheVariants as e
@@ -17,7 +13,6 @@ use Rattle.hb_laws.specs.RefusedTunnels.{RefusedAt}
 use Rattle.hb_laws.proofs.DownRing.{down_fits}
 use Rattle.hb_laws.proofs.Lawful.{goes_at, own_in}
 use Rattle.hb_laws.proofs.Places.{of_upstream}
-use Rattle.hb_laws.proofs.Runs.{front_runs}
 
 pub keeps_more_up : RefusedFront KeepsMoreUp
 keeps_more_up g trace before behind h are so =
@@ -31,25 +26,8 @@ keeps_more_up g trace before behind h are so =
 
 pub keeps_more_plain : RefusedFront KeepsMorePlain
 keeps_more_plain g trace before behind h are so =
-    let run = front_runs g h.machine h.points h.run before behind are in
-    let parts = plain_of so.link before in
-    let keeps = all_keep so.link (at_start g) (plain_local run.0 so.link) parts (plain_runs g run.0 before so.link run.1) in
-    ⊎_elim (λ over. absurd (omega (
-      arith,
-      over,
-      keeps.rings.up,
-      ap ring_up keeps.tells.door,
-      ap (λ (xs : List ℕ). length xs) keeps.ups,
-      length-append (up_went parts) (run.0.plain so.link).ways.up.held,
-    )))
-    (λ over. absurd (omega (
-      arith,
-      over,
-      keeps.rings.down,
-      ap ring_down keeps.tells.door,
-      ap (λ (xs : List ℕ). length xs) keeps.downs,
-      length-append (link_went parts) (run.0.plain so.link).ways.down.held,
-    ))) so.over
+    let law = (h.laws before behind are).rings so.link in
+    ⊎_elim (λ over. absurd (omega (arith, over, law.up))) (λ over. absurd (omega (arith, over, law.down))) so.over
 
 pub comes_beyond_ring : RefusedAt ComesBeyondRing
 comes_beyond_ring g trace before behind p z h are is so =

@@ -31,7 +31,7 @@ pub record KeepsMoreUp (g : NodeConfig) (before : List Point) : Type 0 where
   pub over : length (sent up (entries before)) + up_size < length (stream_came stream (parts_of link before))
 
 -- of the bytes of a plain link more wait than its rings have room for, by its door: those that came behind the front header and didn't go
--- to its upstream or stream; or those that came from that and didn't go on the link
+-- to its upstream or stream; or those that came from that and didn't go on the link. Its law of rings refuses it
 pub record KeepsMorePlain (g : NodeConfig) (before : List Point) : Type 0 where
   pub link : ℕ
   pub over : (length (up_went (plain_of link before)) + ring_up (door_of (plain_of link before)) < length (raw_came (plain_of link before)))
