@@ -1,9 +1,10 @@
 #!/usr/bin/python3
 """A control plane for one machine: sends the workloads, services and policies of a file to each node that asks, and again what changes.
 
-usage: examples/control_plane.py [HOST:]PORT FILE
+usage: examples/control_plane.py [--as FOLDER/NAME] [HOST:]PORT FILE
 
-It speaks Envoy's delta discovery over gRPC without TLS, with Istio's two types, as docs/FORMATS.md has them under Messages. FILE is YAML,
+It speaks Envoy's delta discovery over gRPC, with Istio's two types, as docs/FORMATS.md has them under Messages: without TLS, or, with the
+word --as, by mutual TLS with a certificate that examples/certificates.sh made, to clients whose certificate ca.pem signed. FILE is YAML,
 as examples/mesh.yaml: the lists `workloads`, `services` and `policies`, whose members have the names of the fields there, but for
 waypoints. An address is written as text, a prefix as ADDRESS/LENGTH, a choice by its name; the services of a workload as a map, which has
 of each NAMESPACE/HOSTNAME a list of ports. The file is looked at once a second: save it, and each node is sent what changed. A file that
@@ -12,6 +13,7 @@ can't be read changes nothing. A line is printed for each response and for each 
 Needs Debian's python3-grpcio and python3-yaml: run it with /usr/bin/python3.
 """
 
+import argparse
 import hashlib
 import ipaddress
 import pathlib
@@ -151,13 +153,13 @@ def identity(message_bytes):
 class Plane:
     """A server at an address: `resources` has, of each type, the records by name; `waits` the nonces that no node has answered yet."""
 
-    def __init__(self, at, tell=print, options=()):
+    def __init__(self, at, tell=print, options=(), credentials=None):
         self.tell, self.lock = tell, threading.Condition()
         self.resources, self.streams, self.waits, self.refusals, self.sent = {kind: {} for kind in KINDS}, [], set(), [], 0
         self.server = grpc.server(ThreadPoolExecutor(64), options=[("grpc.so_reuseport", 0), *options])
         handler = grpc.stream_stream_rpc_method_handler(self.stream, request_deserializer=identity, response_serializer=identity)
         self.server.add_generic_rpc_handlers((grpc.method_handlers_generic_handler(SERVICE, {METHOD: handler}),))
-        if not self.server.add_insecure_port(at):
+        if not (self.server.add_secure_port(at, credentials) if credentials else self.server.add_insecure_port(at)):
             raise OSError(f"no port at {at}")
         self.server.start()
 
@@ -256,12 +258,21 @@ def follow(plane, file):
         time.sleep(1)
 
 
+def credentials_of(own):
+    """Mutual TLS with the certificate and key of this name, for clients that ca.pem beside them signed."""
+    own = pathlib.Path(own)
+    key, certificate, authority = (own.with_name(it).read_bytes() for it in (f"{own.name}.key", f"{own.name}.pem", "ca.pem"))
+    return grpc.ssl_server_credentials([(key, certificate)], authority, require_client_auth=True)
+
+
 def main():
-    if len(sys.argv) != 3:
-        raise SystemExit(__doc__)
-    at, file = sys.argv[1:]
-    plane = Plane(at if ":" in at else f"127.0.0.1:{at}", lambda line: print(line, flush=True))
-    follow(plane, pathlib.Path(file))
+    words = argparse.ArgumentParser(description=__doc__, formatter_class=argparse.RawDescriptionHelpFormatter)
+    words.add_argument("--as", dest="own", type=credentials_of)
+    words.add_argument("at")
+    words.add_argument("file", type=pathlib.Path)
+    given = words.parse_args()
+    at = given.at if ":" in given.at else f"127.0.0.1:{given.at}"
+    follow(Plane(at, lambda line: print(line, flush=True), credentials=given.own), given.file)
 
 
 if __name__ == "__main__":
