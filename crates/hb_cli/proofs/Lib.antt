@@ -1,6 +1,7 @@
 pub mod Concluding
 pub mod Endings
 pub mod Inputs
+pub mod Keeping
 pub mod Makes
 pub mod Outcomes
 pub mod Pages

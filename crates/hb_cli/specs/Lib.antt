@@ -5,6 +5,7 @@ pub mod Ending
 pub mod Hearing
 pub mod Input
 pub mod Judge
+pub mod Keeping
 pub mod Leaving
 pub mod Looking
 pub mod Making

@@ -1,6 +1,6 @@
 //! What follows of how a run ends. Each is the contract of a function that does nothing.
 
-ghost use Rattle.std.specs.Prelude.{◌≡◌, ◌≢◌, ◌<◌, ◌≤◌, ◌==◌, ◌⊎◌, ℕ, List, [], false, IsTrue, IsErr, IfSome, length, take, Ok, Err};
+ghost use Rattle.std.specs.Prelude.{◌≡◌, ◌≢◌, ◌<◌, ◌≤◌, ◌==◌, ◌⊎◌, ℕ, List, [], false, IsTrue, IsErr, IfSome, length, take, None, Ok, Err};
 ghost use Rattle.std.specs.Io.KnownBytes.{Appends};
 ghost use Rattle.hb_audit.specs.HeldBy.{answers_by};
 ghost use Rattle.hb_audit.specs.Tells.{Tells};
@@ -12,13 +12,15 @@ ghost use Rattle.hb_turns.specs.Notes.{held};
 ghost use Rattle.hb_words.specs.Command.{Replay as Replays, Serve as Serves, shows, replays, serves, makes, prints};
 ghost use Rattle.hb_words.specs.declared.asks.Make.{Make as Makes};
 ghost use Rattle.hb_words.specs.declared.page.Page.{Page as Pages};
+ghost use Rattle.hb_cli.specs.Asked.{words_of};
 ghost use Rattle.hb_cli.specs.Ending.{EachEnding};
+ghost use Rattle.hb_cli.specs.Keeping.{KeepsHeadline};
 ghost use Rattle.hb_cli.specs.Making.{MakesAt};
 ghost use Rattle.hb_cli.specs.Leaving.{RunsTo};
 ghost use Rattle.hb_cli.specs.Paging.{PagesAt};
 ghost use Rattle.hb_cli.specs.Run.{IsOutcomeBy, IsStated, ReadsEnough, WritesLine, outcome_by, status_of};
 ghost use Rattle.hb_cli.specs.Run.{is_answered, line_at, stop_line, takes_input};
-ghost use Rattle.hb_cli.specs.Serving.{ServesAt};
+ghost use Rattle.hb_cli.specs.Serving.{ServesAt, LeavesTrace};
 ghost use Rattle.hb_cli.specs.declared.stop.Stop.{Stop};
 
 use hb_audit::Audit;
@@ -95,6 +97,17 @@ pub fn replays_leave_lawful_runs<A: Audit>()
     ensures nothing_done { EachEnding (answers_by A.notes A.answers) (λ r status. (status ≡ 2) ⊎ (status ≡ 3) ⊎ (status ≡ 6) → r.left.script.trace ≡ []) }
     ensures replays_alone { EachEnding (answers_by A.notes A.answers) (λ r status. IsTrue (takes_input r.asked) → (status ≡ 4) ⊎ (status ≡ 5)
         → (p : Replays) × (r.asked ≡ Ok (replays p))) }
+{}
+
+/// The headline holds of what a replay did, and `serve` over a world that tells its trace, behind which an answer stands: bytes of tunnels
+/// are prefixes of those that came on the other side, upstreams are dialled for their tunnels, what is held is none forged, and no byte goes
+/// unless that admits its peer.
+pub fn runs_keep_the_headline<A: Audit>()
+    ensures replays { EachEnding (answers_by A.notes A.answers) (λ r status. (p : Replays) → r.asked ≡ Ok (replays p)
+        → (status ≡ 0) ⊎ (status ≡ 4) ⊎ (status ≡ 5) ⊎ (status ≡ 7) → KeepsHeadline (words_of p.run None) r.left.script.trace) }
+    ensures serves { EachEnding (answers_by A.notes A.answers) (λ r status. (s : Serves) → r.asked ≡ Ok (serves s)
+        → (status ≡ 0) ⊎ (status ≡ 4) ⊎ (status ≡ 5) ⊎ (status ≡ 7)
+        → LeavesTrace r.world (λ trace. KeepsHeadline (words_of s.run s.ticks) trace)) }
 {}
 
 /// All notes of a replay that ends so were told to the audits, one after the other, and those are left that kept each. At 2, 3 and 6 no
