@@ -1,5 +1,5 @@
 -- A life of a tunnel meets the headline.
-use Rattle.std.proofs.Common.{◌≡◌, ◌≢◌, ◌⊎◌, inl, inr, ⊎_elim, ℕ, ◌<◌, ◌-◌, ◌==◌, ◌||◌, Bool, true, false, cond, List, [], ◌∷◌, ◌++◌, length, drop, map, fold, None, Ok, refl, ap, sym, ◌∙◌, subst, arith}
+use Rattle.std.proofs.Common.{◌≡◌, ◌≢◌, ◌⊎◌, inl, inr, ⊎_elim, ℕ, ◌<◌, ◌-◌, ◌==◌, ◌||◌, Bool, true, false, cond, List, [], ◌∷◌, ◌++◌, length, drop, map, fold, None, Ok, refl, ap, ap₂, sym, ◌∙◌, subst, arith}
 use Rattle.std.specs.List.{flat_map, list_any}
 use Rattle.std.proofs.lemmas.Bool.{false≢true, eqb-true}
 use Rattle.std.proofs.lemmas.List.{append-nil, append_assoc, take_all}
@@ -111,6 +111,10 @@ dial_for u _ = []
 abbrev dial_in : Entry → List Upstream
 dial_in (e.Dialled u to why) = dial_for u why
 dial_in _ = []
+
+none_dialled : (front behind more : List Upstream) → (front ++ upstream 3 2 1 ∷ behind) ++ more ≡ [] → ⊥
+none_dialled [] behind more is = cc
+none_dialled (d ∷ front) behind more is = cc
 
 -- DATA without padding is lent whole
 lent_whole : (bytes : List ℕ) → lent_of (data_of bytes) ≡ bytes
@@ -439,6 +443,43 @@ module _ (g : NodeConfig) (at to : Target) (bytes : List ℕ) (r : Response) (up
       no_more [] is = cc
       no_more (p ∷ before) is = cc
 
+  -- REVOKED
+  abbrev behind_dial : List Entry
+  behind_dial = e.Opened 3 ∷ e.Went 3 (up ∷ []) ∷ e.Came 3 (down ∷ []) ∷ e.Went 2 (spelling (data_with down)) ∷ []
+
+  stands_by : (more after : List Entry) → later ≡ more ++ after → owner 3 (opening ++ more) ≡ upstream_of 2 1
+      → Admits (made_by g (applied (opening ++ more))) (opening ++ more) 2 1 3
+  stands_by [] after are own = absurd cc
+  stands_by (x ∷ more) after are own =
+      let first : e.Dialled 3 to (whys.Upstream 2 1) ≡ x = cc in
+      subst (λ (z : Entry). Admits (made_by g (applied (opening ++ z ∷ more))) (opening ++ z ∷ more) 2 1 3) first
+      (admits (opening ++ e.Dialled 3 to (whys.Upstream 2 1) ∷ more) more (drop 28 (recv 2 trace) ++ recv 2 more) refl refl)
+
+  stands : (before after : List Entry) → trace ≡ before ++ after → (l s u : ℕ) → owner u before ≡ upstream_of l s
+      → Admits (made_by g (applied before)) before l s u
+  stands before after are l s u own =
+      let is = one_upstream before after are l s u own in
+      let mine : owner 3 before ≡ upstream_of 2 1 =
+      ap (λ (k : ℕ). owner k before) (sym is.0) ∙ own ∙ ap₂ upstream_of is.1 is.2 in
+      subst (λ (k : ℕ). Admits (made_by g (applied before)) before k s u) (sym is.1)
+      (subst (λ (k : ℕ). Admits (made_by g (applied before)) before 2 k u) (sym is.2)
+      (subst (λ (k : ℕ). Admits (made_by g (applied before)) before 2 1 k) (sym is.0)
+      (⊎_elim
+      (λ (short : (more : List Entry) × (opening ≡ before ++ more)).
+      let dial = is_dialled before 2 1 3 mine in
+      let front = flat_map dial_in dial.1.before in
+      let rest = flat_map dial_in dial.1.behind in
+      let here : flat_map dial_in before ≡ front ++ upstream 3 2 1 ∷ rest =
+      ap (flat_map dial_in) dial.1.is
+      ∙ flat_map-append dial_in dial.1.before (e.Dialled 3 dial.0 (whys.Upstream 2 1) ∷ dial.1.behind) in
+      absurd (none_dialled front rest (flat_map dial_in short.0)
+      (ap (λ (ds : List Upstream). ds ++ flat_map dial_in short.0) (sym here)
+      ∙ sym (flat_map-append dial_in before short.0) ∙ sym (ap (flat_map dial_in) short.1))))
+      (λ (long : (more : List Entry) × (before ≡ opening ++ more) × (later ≡ more ++ after)).
+      subst (λ (es : List Entry). Admits (made_by g (applied es)) es 2 1 3) (sym long.1)
+      (stands_by long.0 after long.2 (ap (owner 3) (sym long.1) ∙ mine)))
+      (cuts opening later before after are))))
+
   lives : Headline g trace
   lives = record {
     frames = frames;
@@ -454,6 +495,7 @@ module _ (g : NodeConfig) (at to : Target) (bytes : List ℕ) (r : Response) (up
     dialled = record { tunnels = dialled; plain = λ l u v own other. absurd (no_relay trace [] refl u l own) };
     held = record { told = told; grows = λ before more after are. grows before more };
     admitted = goes;
+    revoked = λ before z after are more l s u own living. stands before (z ∷ after) are l s u own;
   }
 
 pub life_meets : LifeMeetsTheHeadline

@@ -12,6 +12,8 @@ use Rattle.hb_inbound.specs.Sides.{link_went}
 use Rattle.hb_kept.proofs.Begun.{have_begun, first_octet_begins}
 use Rattle.hb_kept.specs.Payloads.{Began}
 use Rattle.hb_laws.proofs.Doors.{without_append, owner_without}
+use Rattle.hb_laws.proofs.Living.{all_closed}
+use Rattle.hb_laws.specs.RefusedTunnels.{is_more}
 use Rattle.hb_laws.proofs.Lawful.{Goes, goes_at, own_in, laws_of}
 use Rattle.hb_laws.proofs.Places.{Place, IsOwn, place, of_somebody, of_inbound, of_upstream}
 use Rattle.hb_laws.specs.Lawful.{Lawful, Laws}
@@ -24,7 +26,7 @@ use Rattle.hb_proxy.specs.Machine.{Machine}
 use Rattle.hb_proxy.specs.Owners.{owner, inbound_link, upstream_of, plain_link}
 use Rattle.hb_proxy.specs.Points.{Point, entries, control_of, control_in, parts_of, plain_of}
 use Rattle.hb_proxy.specs.Runs.{Steps, StandsFor}
-use Rattle.hb_world.specs.Trace.{sent}
+use Rattle.hb_world.specs.Trace.{sent, lives}
 use Rattle.hb_world.specs.declared.entry.Entry.{Entry}
 use Rattle.hb_world.specs.declared.entry.Entry.TheVariants as e
 use Rattle.hb_headline.specs.Access.{Admits, AreAdmitted, door_at, AdmitsPlain, GoesAdmitted}
@@ -39,6 +41,7 @@ use Rattle.hb_headline.proofs.Held.{applied_in, applied_of, are_told, made_is}
 use Rattle.hb_headline.proofs.OneLink.{IsOne}
 use Rattle.hb_headline.proofs.OneList.{PlaceIs, AllBegin, all_begin, new_on}
 use Rattle.hb_headline.proofs.PlainAccess.{judges_it, admits}
+use Rattle.hb_headline.proofs.Revoked.{more_stays, stands_admitted}
 use Rattle.hb_headline.proofs.Relay.{went_is, owner_is, relays_plain}
 use Rattle.hb_headline.proofs.RelayUp.{relays_up}
 
@@ -143,14 +146,47 @@ module _ (g : NodeConfig) (trace : List Entry) (h : Lawful g trace) where
         );
   }
 
+  -- AT A PLACE of the trace that is no call at a door
+  module _ (before : List Entry) (z : Entry) (after : List Entry) (are : trace ≡ before ++ z ∷ after)
+      (stays : without_doors (z ∷ after) ≡ z ∷ without_doors after)
+    where
+      place_there : Place h.points (without_doors before) z
+      place_there = place h.points (without_doors before) z (without_doors after)
+          (sym h.trace_is ∙ ap without_doors are ∙ without_append before (z ∷ after)
+          ∙ ap (λ (es : List Entry). without_doors before ++ es) stays)
+
+      front_same : front_of before ≡ place_there.front
+      front_same =
+          ap (λ (n : ℕ). front_at n h.points) (ap length (sym place_there.before_is))
+          ∙ ap (front_at (length (entries place_there.front))) place_there.points_are
+          ∙ place_at place_there.front place_there.p place_there.rest z place_there.is
+
+      -- what is said by what is held there is said by what the responses make
+      by_responses : (P : Resources → Type 0) → P (messages.held g (control_of place_there.front)) → P (made_by g (applied before))
+      by_responses P holds =
+          subst P (made_is g place_there.front ∙ ap (λ (ps : List Point). made_by g (applied_of (control_of ps))) (sym front_same)) holds
+
+  -- where more comes
+  stands : (before : List Entry) (z : Entry) (after : List Entry) → trace ≡ before ++ z ∷ after → is_more z ≡ true → (l s u : ℕ)
+      → owner u before ≡ upstream_of l s → lives u before ≡ true → Admits (made_by g (applied before)) before l s u
+  stands before z after are more l s u own living =
+      let stays = more_stays z after more in
+      let at = place_there before z after are stays in
+      let goes = goes_at g trace h at.front at.p at.rest at.points_are in
+      by_responses before z after are stays (λ held. Admits held before l s u)
+      (stands_admitted g goes.machine at.front goes.run before at.before_is (h.laws at.front (at.p ∷ at.rest) at.points_are)
+      (all_closed g trace h at.front at.p at.rest z at.points_are at.is more) l s u own living)
+
   -- WHERE BYTES GO
   module _ (before : List Entry) (u : ℕ) (bytes : List ℕ) (after : List Entry) (are : trace ≡ before ++ e.Went u bytes ∷ after) where
     abbrev z : Entry
     z = e.Went u bytes
 
-    at : Place h.points (without_doors before) z
-    at = place h.points (without_doors before) z (without_doors after)
-        (sym h.trace_is ∙ ap without_doors are ∙ without_append before (z ∷ after))
+    abbrev at : Place h.points (without_doors before) z
+    at = place_there before z after are refl
+
+    abbrev held_there : (P : Resources → Type 0) → P (messages.held g (control_of at.front)) → P (made_by g (applied before))
+    held_there = by_responses before z after are refl
 
     laws : Laws g at.front
     laws = h.laws at.front (at.p ∷ at.rest) at.points_are
@@ -164,21 +200,11 @@ module _ (g : NodeConfig) (trace : List Entry) (h : Lawful g trace) where
     on_front : (n : ℕ) → owner n (entries at.front) ≡ owner n before
     on_front n = ap (owner n) at.before_is ∙ owner_without n before
 
-    front_same : front_of before ≡ at.front
-    front_same =
-        ap (λ (n : ℕ). front_at n h.points) (ap length (sym at.before_is))
-        ∙ ap (front_at (length (entries at.front))) at.points_are ∙ place_at at.front at.p at.rest z at.is
-
-    -- what is said by what is held there is said by what the responses make
-    by_responses : (P : Resources → Type 0) → P (messages.held g (control_of at.front)) → P (made_by g (applied before))
-    by_responses P holds =
-        subst P (made_is g at.front ∙ ap (λ (ps : List Point). made_by g (applied_of (control_of ps))) (sym front_same)) holds
-
     plain_is : (l : ℕ) → owner l (entries at.front) ≡ plain_link → door_at l before ≡ door.Plain
         → (judges (door_of (plain_of l at.front)) ≡ true → PlainIsAdmitted g at.front l)
         → AdmitsPlain (made_by g (applied before)) before l
     plain_is l mine at_door admitted =
-        by_responses (λ held. AdmitsPlain held before l)
+        held_there (λ held. AdmitsPlain held before l)
         (admits g goes.machine at.front goes.run before at.before_is laws l mine
         (admitted (judges_it g goes.machine at.front goes.run before at.before_is laws l mine at_door)))
 
@@ -187,12 +213,12 @@ module _ (g : NodeConfig) (trace : List Entry) (h : Lawful g trace) where
       born = λ none. of_somebody at.front z u refl at.p own_here at.is (on_front u ∙ none);
       up = λ l s own.
           let p_is = of_upstream at.front z u refl at.p own_here at.is l s (on_front u ∙ own) in
-          by_responses (λ held. Admits held before l s u)
+          held_there (λ held. Admits held before l s u)
           (admits_up g goes.machine at.front goes.run before at.before_is laws l s u own goes.next bytes
           (subst (λ (q : Point). Steps g goes.machine q goes.next) p_is goes.steps));
       down = λ own.
           let p_is = of_inbound at.front z u refl at.p own_here at.is (on_front u ∙ own) in
-          by_responses (λ held. AreAdmitted held before u (begin_with bytes u (frames u) before))
+          held_there (λ held. AreAdmitted held before u (begin_with bytes u (frames u) before))
           (down_admitted g u (frames u) at.front before bytes
           (subst (PlaceIs g u (frames u) at.front) p_is ((begins_on u).places at.front at.p at.rest at.points_are)) at.before_is laws own);
       plain = λ own at_door.
@@ -211,6 +237,7 @@ keeps_the_headline g trace h = record {
   dialled = lawful_upstreams g trace h;
   held = holds g trace h;
   admitted = goes_admitted g trace h;
+  revoked = stands g trace h;
 }
 
 pub began_is_not_one : BeganIsNotOne

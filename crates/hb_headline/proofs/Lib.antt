@@ -17,6 +17,7 @@ pub mod PlainAccess
 pub mod Refused
 pub mod Relay
 pub mod RelayUp
+pub mod Revoked
 pub mod Shut
 pub mod Targets
 pub mod Tunnels

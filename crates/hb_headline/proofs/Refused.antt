@@ -26,7 +26,7 @@ use Rattle.hb_world.specs.declared.entry.Entry.{Entry}
 use Rattle.hb_world.specs.declared.entry.Entry.TheVariants as e
 use Rattle.hb_headline.specs.Access.{peer_in, Admits, AreAdmitted}
 use Rattle.hb_headline.specs.Held.{Applied, AreRead, AreTold, PicksAny, made_by, on_link}
-use Rattle.hb_headline.specs.Refused.{SendsUnfronted, TunnelsUnfronted, InventsBack, SendsEarly, invented, InventsData, unasked, SendsUnasked, DialsTwice, DialsElsewhere, AdmitsElsewhere, AdmitsUntold, untold, AdmitsForged, unanswered, SendsUnborn, CutsUnadmitted}
+use Rattle.hb_headline.specs.Refused.{SendsUnfronted, TunnelsUnfronted, InventsBack, SendsEarly, invented, InventsData, unasked, SendsUnasked, DialsTwice, DialsElsewhere, AdmitsElsewhere, AdmitsUntold, untold, AdmitsForged, unanswered, SendsUnborn, CutsUnadmitted, KeepsUnadmitted}
 use Rattle.hb_headline.specs.Relay.{data_with}
 use Rattle.hb_headline.proofs.OneFrame.{one_frame}
 use Rattle.hb_headline.proofs.OneTarget.{one_dial}
@@ -113,6 +113,13 @@ admits_untold to came bytes g met =
     let told = met.held.told before (e.Went 2 bytes ∷ []) refl in
     let none = none_applied before (met.applied before) (λ d control. false≢true control) told in
     none_admitted g (met.applied before) before 1 1 2 none ((met.admitted before 2 bytes [] refl).up 1 1 refl)
+
+pub keeps_unadmitted : KeepsUnadmitted
+keeps_unadmitted to came g met =
+    let before = untold to came in
+    let told = met.held.told before (e.Tick ∷ []) refl in
+    let none = none_applied before (met.applied before) (λ d control. false≢true control) told in
+    none_admitted g (met.applied before) before 1 1 2 none (met.revoked before e.Tick [] refl refl 1 1 2 refl refl)
 
 pub sends_unborn : SendsUnborn
 sends_unborn bytes g met = (met.admitted [] 1 bytes [] refl).born refl

@@ -92,3 +92,7 @@ abbrev pub CutsUnadmitted : Type 0
 CutsUnadmitted = (to : Target) (came : List ℕ) (byte : ℕ)
     → NotMet (untold to came ++ e.Came 2 (byte ∷ []) ∷ e.Went 1 (0 ∷ 0 ∷ 1 ∷ [])
     ∷ e.Went 1 (0 ∷ 0 ∷ 0 ∷ 0 ∷ 0 ∷ 1 ∷ byte ∷ []) ∷ [])
+
+-- REVOKED: an upstream lives at a tick, where nobody is admitted
+abbrev pub KeepsUnadmitted : Type 0
+KeepsUnadmitted = (to : Target) (came : List ℕ) → NotMet (untold to came ++ e.Tick ∷ [])

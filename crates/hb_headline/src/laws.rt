@@ -4,7 +4,7 @@ ghost use Rattle.hb_headline.specs.Good.{LifeMeetsTheHeadline};
 ghost use Rattle.hb_headline.specs.Headline.{LawfulKeepsTheHeadline};
 ghost use Rattle.hb_headline.specs.Refused.{SendsUnfronted, TunnelsUnfronted, InventsBack, SendsEarly, InventsData};
 ghost use Rattle.hb_headline.specs.Refused.{SendsUnasked, DialsTwice, DialsElsewhere, AdmitsElsewhere, AdmitsUntold, AdmitsForged};
-ghost use Rattle.hb_headline.specs.Refused.{SendsUnborn, CutsUnadmitted};
+ghost use Rattle.hb_headline.specs.Refused.{SendsUnborn, CutsUnadmitted, KeepsUnadmitted};
 ghost use Rattle.hb_headline.specs.Relay.{BeganIsNotOne};
 
 /// Each lawful trace meets the headline.
@@ -28,6 +28,7 @@ pub fn small_traces_are_refused()
     ensures forged { AdmitsForged }
     ensures unborn { SendsUnborn }
     ensures cut { CutsUnadmitted }
+    ensures kept { KeepsUnadmitted }
 {}
 
 /// A life of a tunnel with a response that admits its peer meets it.

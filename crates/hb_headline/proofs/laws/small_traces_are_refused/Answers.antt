@@ -1,4 +1,4 @@
-use Rattle.hb_headline.proofs.Refused.{sends_unfronted, tunnels_unfronted, invents_back, sends_early, invents_data, sends_unasked, dials_twice, dials_elsewhere, admits_elsewhere, admits_untold, admits_forged, sends_unborn, cuts_unadmitted}
+use Rattle.hb_headline.proofs.Refused.{sends_unfronted, tunnels_unfronted, invents_back, sends_early, invents_data, sends_unasked, dials_twice, dials_elsewhere, admits_elsewhere, admits_untold, admits_forged, sends_unborn, cuts_unadmitted, keeps_unadmitted}
 use Rattle.hb_headline.proofs.laws.small_traces_are_refused.Goals as goal
 
 pub returns : goal.returns
@@ -16,4 +16,5 @@ returns c = record {
   forged = admits_forged;
   unborn = sends_unborn;
   cut = cuts_unadmitted;
+  kept = keeps_unadmitted;
 }
