@@ -495,7 +495,10 @@ module _ (g : NodeConfig) (at to : Target) (bytes : List ℕ) (r : Response) (up
     dialled = record { tunnels = dialled; plain = λ l u v own other. absurd (no_relay trace [] refl u l own) };
     held = record { told = told; grows = λ before more after are. grows before more };
     admitted = goes;
-    revoked = λ before z after are more l s u own living. stands before (z ∷ after) are l s u own;
+    revoked = λ before z after are more. record {
+      tunnels = λ l s u own living. stands before (z ∷ after) are l s u own;
+      plain = λ l u own at_door living. absurd (no_relay before (z ∷ after) are u l own);
+    };
   }
 
 pub life_meets : LifeMeetsTheHeadline

@@ -26,10 +26,10 @@ use Rattle.hb_proxy.specs.Machine.{Machine}
 use Rattle.hb_proxy.specs.Owners.{owner, inbound_link, upstream_of, plain_link}
 use Rattle.hb_proxy.specs.Points.{Point, entries, control_of, control_in, parts_of, plain_of}
 use Rattle.hb_proxy.specs.Runs.{Steps, StandsFor}
-use Rattle.hb_world.specs.Trace.{sent, lives}
+use Rattle.hb_world.specs.Trace.{sent}
 use Rattle.hb_world.specs.declared.entry.Entry.{Entry}
 use Rattle.hb_world.specs.declared.entry.Entry.TheVariants as e
-use Rattle.hb_headline.specs.Access.{Admits, AreAdmitted, door_at, AdmitsPlain, GoesAdmitted}
+use Rattle.hb_headline.specs.Access.{Admits, AreAdmitted, door_at, AdmitsPlain, GoesAdmitted, Stands}
 use Rattle.hb_headline.specs.Headline.{LawfulKeepsTheHeadline}
 use Rattle.hb_headline.specs.Held.{Applied, Holds, made_by}
 use Rattle.hb_headline.specs.Relay.{PlainRelays, TunnelRelaysUp, LinkRelaysDown, begin_with, BeganIsNotOne, data_with}
@@ -41,6 +41,7 @@ use Rattle.hb_headline.proofs.Held.{applied_in, applied_of, are_told, made_is}
 use Rattle.hb_headline.proofs.OneLink.{IsOne}
 use Rattle.hb_headline.proofs.OneList.{PlaceIs, AllBegin, all_begin, new_on}
 use Rattle.hb_headline.proofs.PlainAccess.{judges_it, admits}
+use Rattle.hb_headline.proofs.PlainRevoked.{relay_admitted}
 use Rattle.hb_headline.proofs.Revoked.{more_stays, stands_admitted}
 use Rattle.hb_headline.proofs.Relay.{went_is, owner_is, relays_plain}
 use Rattle.hb_headline.proofs.RelayUp.{relays_up}
@@ -167,15 +168,21 @@ module _ (g : NodeConfig) (trace : List Entry) (h : Lawful g trace) where
           subst P (made_is g place_there.front ∙ ap (λ (ps : List Point). made_by g (applied_of (control_of ps))) (sym front_same)) holds
 
   -- where more comes
-  stands : (before : List Entry) (z : Entry) (after : List Entry) → trace ≡ before ++ z ∷ after → is_more z ≡ true → (l s u : ℕ)
-      → owner u before ≡ upstream_of l s → lives u before ≡ true → Admits (made_by g (applied before)) before l s u
-  stands before z after are more l s u own living =
+  stands : (before : List Entry) (z : Entry) (after : List Entry) → trace ≡ before ++ z ∷ after → is_more z ≡ true
+      → Stands (made_by g (applied before)) before
+  stands before z after are more =
       let stays = more_stays z after more in
       let at = place_there before z after are stays in
       let goes = goes_at g trace h at.front at.p at.rest at.points_are in
-      by_responses before z after are stays (λ held. Admits held before l s u)
-      (stands_admitted g goes.machine at.front goes.run before at.before_is (h.laws at.front (at.p ∷ at.rest) at.points_are)
-      (all_closed g trace h at.front at.p at.rest z at.points_are at.is more) l s u own living)
+      let laws = h.laws at.front (at.p ∷ at.rest) at.points_are in
+      let closed = all_closed g trace h at.front at.p at.rest z at.points_are at.is more in
+      by_responses before z after are stays (λ held. Stands held before)
+      (record {
+        tunnels = λ l s u own living.
+            stands_admitted g goes.machine at.front goes.run before at.before_is laws closed l s u own living;
+        plain = λ l u own at_door living.
+            relay_admitted g goes.machine at.front goes.run before at.before_is laws closed l u own living at_door;
+      })
 
   -- WHERE BYTES GO
   module _ (before : List Entry) (u : ℕ) (bytes : List ℕ) (after : List Entry) (are : trace ≡ before ++ e.Went u bytes ∷ after) where

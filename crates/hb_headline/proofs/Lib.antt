@@ -14,6 +14,7 @@ pub mod OneLink
 pub mod OneList
 pub mod OneTarget
 pub mod PlainAccess
+pub mod PlainRevoked
 pub mod Refused
 pub mod Relay
 pub mod RelayUp

@@ -119,7 +119,7 @@ keeps_unadmitted to came g met =
     let before = untold to came in
     let told = met.held.told before (e.Tick ∷ []) refl in
     let none = none_applied before (met.applied before) (λ d control. false≢true control) told in
-    none_admitted g (met.applied before) before 1 1 2 none (met.revoked before e.Tick [] refl refl 1 1 2 refl refl)
+    none_admitted g (met.applied before) before 1 1 2 none ((met.revoked before e.Tick [] refl refl).tunnels 1 1 2 refl refl)
 
 pub sends_unborn : SendsUnborn
 sends_unborn bytes g met = (met.admitted [] 1 bytes [] refl).born refl

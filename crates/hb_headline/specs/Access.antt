@@ -13,6 +13,7 @@ use Rattle.hb_outgoing.specs.Selected.{has_data}
 use Rattle.hb_proxy.specs.Owners.{nobody, owner, upstream_of, inbound_link, plain_link, relay_of}
 use Rattle.hb_table.specs.Judgement.{judged}
 use Rattle.hb_table.specs.declared.judgement.Judged.TheVariants.{Admitted}
+use Rattle.hb_world.specs.Trace.{lives}
 use Rattle.hb_world.specs.declared.entry.Entry.{Entry}
 use Rattle.hb_world.specs.declared.entry.Entry.TheVariants as e
 use Rattle.hb_headline.specs.Dials.{IsDialled}
@@ -62,3 +63,8 @@ pub record GoesAdmitted (held : Resources) (frames : ℕ → List RawFrame) (bef
   -- u is a link of the plain door, or the upstream of one: its peer is admitted where its header said
   pub plain : owner u before ≡ plain_link → door_at u before ≡ door.Plain → AdmitsPlain held before u
   pub relay : (l : ℕ) → owner u before ≡ relay_of l → door_at l before ≡ door.Plain → AdmitsPlain held before l
+
+-- REVOKED: where more comes behind this trace, each tunnel whose upstream lives is admitted, and so is each link of the plain door
+pub record Stands (held : Resources) (before : List Entry) : Type 0 where
+  pub tunnels : (l s u : ℕ) → owner u before ≡ upstream_of l s → lives u before ≡ true → Admits held before l s u
+  pub plain : (l u : ℕ) → owner u before ≡ relay_of l → door_at l before ≡ door.Plain → lives u before ≡ true → AdmitsPlain held before l

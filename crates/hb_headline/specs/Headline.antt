@@ -4,11 +4,9 @@ use Rattle.hb_frames.specs.RawFrame.{RawFrame}
 use Rattle.hb_laws.specs.Lawful.{Lawful}
 use Rattle.hb_laws.specs.RefusedTunnels.{is_more}
 use Rattle.hb_model.specs.declared.config.NodeConfig.{NodeConfig}
-use Rattle.hb_proxy.specs.Owners.{owner, upstream_of}
-use Rattle.hb_world.specs.Trace.{lives}
 use Rattle.hb_world.specs.declared.entry.Entry.{Entry}
 use Rattle.hb_world.specs.declared.entry.Entry.TheVariants as e
-use Rattle.hb_headline.specs.Access.{Admits, GoesAdmitted}
+use Rattle.hb_headline.specs.Access.{GoesAdmitted, Stands}
 use Rattle.hb_headline.specs.Dials.{Upstreams}
 use Rattle.hb_headline.specs.Held.{Applied, Holds, made_by}
 use Rattle.hb_headline.specs.Relay.{Relays}
@@ -26,9 +24,9 @@ pub record Headline (g : NodeConfig) (trace : List Entry) : Type 0 where
   -- ADMITTED: no byte goes to a workload, and none back, unless what is held then admits the peer there
   pub admitted : (before : List Entry) (u : ℕ) (bytes : List ℕ) (after : List Entry) → trace ≡ before ++ e.Went u bytes ∷ after
       → GoesAdmitted (made_by g (applied before)) frames before u bytes
-  -- REVOKED: where anything more comes, a link, bytes, an end, an opening, a tick or a wait, each tunnel whose upstream lives is admitted
+  -- REVOKED: where anything more comes, a link, an opening, bytes, an end, a tick or a wait, all that lives is admitted
   pub revoked : (before : List Entry) (z : Entry) (after : List Entry) → trace ≡ before ++ z ∷ after → is_more z ≡ true
-      → (l s u : ℕ) → owner u before ≡ upstream_of l s → lives u before ≡ true → Admits (made_by g (applied before)) before l s u
+      → Stands (made_by g (applied before)) before
 
 -- each lawful trace meets it
 abbrev pub LawfulKeepsTheHeadline : Type 0
