@@ -1,5 +1,5 @@
 -- Small traces don't meet the headline.
-use Rattle.std.proofs.Common.{◌≡◌, ⊎_elim, ℕ, ◌==◌, ◌||◌, Bool, true, false, cond, List, [], ◌∷◌, ◌++◌, length, drop, map, Result, Ok, refl, ap, sym, ◌∙◌, subst, arith}
+use Rattle.std.proofs.Common.{◌≡◌, ⊎_elim, ℕ, ◌==◌, ◌||◌, Bool, true, false, cond, List, [], ◌∷◌, ◌++◌, length, drop, map, None, Result, Ok, refl, ap, sym, ◌∙◌, subst, arith}
 use Rattle.std.specs.List.{flat_map, AllByRecursion}
 use Rattle.std.proofs.lemmas.Bool.{false≢true, eqb-true, eq-eqb}
 use Rattle.std.specs.Cmp.Lexicographic.{slice_cmp}
@@ -7,6 +7,7 @@ use Rattle.std.specs.FinMap.{len, len-empty}
 use Rattle.std.specs.Ordering.{nat_cmp}
 use Rattle.hb_base.specs.declared.door.Door.TheVariants as door
 use Rattle.hb_base.specs.declared.door.Why.TheVariants as whys
+use Rattle.hb_base.specs.declared.peer.Peer.{Peer}
 use Rattle.hb_disco.specs.Response.{response_of}
 use Rattle.hb_disco.specs.declared.response.Response.{Response}
 use Rattle.hb_disco.specs.declared.response.ResponseFault.{ResponseFault}
@@ -24,9 +25,9 @@ use Rattle.hb_table.specs.Judgement.{judged}
 use Rattle.hb_world.specs.Trace.{recv}
 use Rattle.hb_world.specs.declared.entry.Entry.{Entry}
 use Rattle.hb_world.specs.declared.entry.Entry.TheVariants as e
-use Rattle.hb_headline.specs.Access.{peer_in, Admits, AreAdmitted}
+use Rattle.hb_headline.specs.Access.{AdmitsPlain, peer_in, Admits, AreAdmitted}
 use Rattle.hb_headline.specs.Held.{Applied, AreRead, AreTold, PicksAny, made_by, on_link}
-use Rattle.hb_headline.specs.Refused.{SendsUnfronted, TunnelsUnfronted, InventsBack, SendsEarly, invented, InventsData, unasked, SendsUnasked, DialsTwice, DialsElsewhere, AdmitsElsewhere, AdmitsUntold, untold, AdmitsForged, unanswered, SendsUnborn, CutsUnadmitted, KeepsUnadmitted}
+use Rattle.hb_headline.specs.Refused.{SendsUnfronted, TunnelsUnfronted, InventsBack, SendsEarly, invented, InventsData, unasked, SendsUnasked, DialsTwice, DialsElsewhere, AdmitsElsewhere, AdmitsUntold, untold, AdmitsForged, unanswered, SendsUnborn, CutsUnadmitted, KeepsUnadmitted, plain_untold, RelaysUntold, KeepsPlain}
 use Rattle.hb_headline.specs.Relay.{data_with}
 use Rattle.hb_headline.proofs.OneFrame.{one_frame}
 use Rattle.hb_headline.proofs.OneTarget.{one_dial}
@@ -98,6 +99,15 @@ none_admitted g applied trace l s u none is =
     nobody_admitted (made_by g applied) (peer_in is.seen) is.to
     (ap (λ (some : List Applied). len (made_by g some).addresses) none ∙ len-empty (slice_cmp nat_cmp) _) is.admitted
 
+no_plain : (g : NodeConfig) (applied : List Applied) (trace : List Entry) (l : ℕ) → applied ≡ [] → AdmitsPlain (made_by g applied) trace l
+    → ⊥
+no_plain g applied trace l none is =
+    let peer : Peer = record { ip = is.seen.source.ip; identity = None } in
+    let no : Unknown ≡ Admitted =
+    sym (nobody_admitted g.network g.node g.doors peer is.seen.destination)
+    ∙ ap (λ (some : List Applied). judged (made_by g some) peer is.seen.destination) (sym none) ∙ is.admitted in
+    cc
+
 none_applied : (trace : List Entry) (applied : List Applied) → ((d : ℕ) → IsControl d trace → ⊥) → AreTold trace applied → applied ≡ []
 none_applied trace [] none told = refl
 none_applied trace (a ∷ applied) none told = absurd (none a.link told.only.0)
@@ -120,6 +130,20 @@ keeps_unadmitted to came g met =
     let told = met.held.told before (e.Tick ∷ []) refl in
     let none = none_applied before (met.applied before) (λ d control. false≢true control) told in
     none_admitted g (met.applied before) before 1 1 2 none ((met.revoked before e.Tick [] refl refl).tunnels 1 1 2 refl refl)
+
+pub relays_untold : RelaysUntold
+relays_untold to came bytes g met =
+    let before = plain_untold to came in
+    let told = met.held.told before (e.Went 2 bytes ∷ []) refl in
+    let none = none_applied before (met.applied before) (λ d control. false≢true control) told in
+    no_plain g (met.applied before) before 1 none ((met.admitted before 2 bytes [] refl).relay 1 refl refl)
+
+pub keeps_plain : KeepsPlain
+keeps_plain to came g met =
+    let before = plain_untold to came in
+    let told = met.held.told before (e.Tick ∷ []) refl in
+    let none = none_applied before (met.applied before) (λ d control. false≢true control) told in
+    no_plain g (met.applied before) before 1 none ((met.revoked before e.Tick [] refl refl).plain 1 2 refl refl refl)
 
 pub sends_unborn : SendsUnborn
 sends_unborn bytes g met = (met.admitted [] 1 bytes [] refl).born refl

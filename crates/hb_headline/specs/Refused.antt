@@ -96,3 +96,13 @@ CutsUnadmitted = (to : Target) (came : List ℕ) (byte : ℕ)
 -- REVOKED: an upstream lives at a tick, where nobody is admitted
 abbrev pub KeepsUnadmitted : Type 0
 KeepsUnadmitted = (to : Target) (came : List ℕ) → NotMet (untold to came ++ e.Tick ∷ [])
+
+-- so it is on a plain link: bytes go to its upstream, and that lives at a tick
+abbrev pub plain_untold : Target → List ℕ → List Entry
+plain_untold to came = e.Accepted 1 door.Plain ∷ e.Came 1 came ∷ e.Dialled 2 to (whys.Plain 1) ∷ e.Opened 2 ∷ []
+
+abbrev pub RelaysUntold : Type 0
+RelaysUntold = (to : Target) (came bytes : List ℕ) → NotMet (plain_untold to came ++ e.Went 2 bytes ∷ [])
+
+abbrev pub KeepsPlain : Type 0
+KeepsPlain = (to : Target) (came : List ℕ) → NotMet (plain_untold to came ++ e.Tick ∷ [])

@@ -4,7 +4,7 @@ ghost use Rattle.hb_headline.specs.Good.{LifeMeetsTheHeadline};
 ghost use Rattle.hb_headline.specs.Headline.{LawfulKeepsTheHeadline};
 ghost use Rattle.hb_headline.specs.Refused.{SendsUnfronted, TunnelsUnfronted, InventsBack, SendsEarly, InventsData};
 ghost use Rattle.hb_headline.specs.Refused.{SendsUnasked, DialsTwice, DialsElsewhere, AdmitsElsewhere, AdmitsUntold, AdmitsForged};
-ghost use Rattle.hb_headline.specs.Refused.{SendsUnborn, CutsUnadmitted, KeepsUnadmitted};
+ghost use Rattle.hb_headline.specs.Refused.{SendsUnborn, CutsUnadmitted, KeepsUnadmitted, RelaysUntold, KeepsPlain};
 ghost use Rattle.hb_headline.specs.Relay.{BeganIsNotOne};
 
 /// Each lawful trace meets the headline.
@@ -29,6 +29,8 @@ pub fn small_traces_are_refused()
     ensures unborn { SendsUnborn }
     ensures cut { CutsUnadmitted }
     ensures kept { KeepsUnadmitted }
+    ensures relayed { RelaysUntold }
+    ensures plain { KeepsPlain }
 {}
 
 /// A life of a tunnel with a response that admits its peer meets it.
