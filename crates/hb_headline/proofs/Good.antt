@@ -10,6 +10,7 @@ use Rattle.hb_base.specs.declared.door.Why.TheVariants as whys
 use Rattle.hb_base.specs.declared.target.Target.{Target}
 use Rattle.hb_disco.specs.Response.{response_of}
 use Rattle.hb_disco.specs.declared.response.Response.{Response}
+use Rattle.hb_frames.specs.Frames.{HasNoFrame}
 use Rattle.hb_frames.specs.Bodies.{lent_of}
 use Rattle.hb_frames.specs.RawFrame.{RawFrame, Spells, spelling}
 use Rattle.hb_front.specs.Reading.{Seen, IsAnswer, Whole}
@@ -19,7 +20,7 @@ use Rattle.hb_held.specs.Outcome.{after_response}
 use Rattle.hb_kept.specs.Payloads.{payloads}
 use Rattle.hb_laws.proofs.Tests.{none_of_both, none_in_front}
 use Rattle.hb_laws.specs.Good.{source, destination}
-use Rattle.hb_model.specs.Calls.{is_control_of}
+use Rattle.hb_model.specs.Calls.{Was, is_control_of, is_opened_of, IsControl}
 use Rattle.hb_model.specs.Discovery.{longest_message}
 use Rattle.hb_model.specs.declared.config.NodeConfig.{NodeConfig}
 use Rattle.hb_outgoing.specs.Written.{begun_in}
@@ -27,14 +28,14 @@ use Rattle.hb_proxy.specs.Held.{at_start}
 use Rattle.hb_proxy.specs.Owners.{Owner, nobody, control_plane, inbound_link, upstream_of, relay_of, at_door, dialled_for, owner_by, owner}
 use Rattle.hb_table.specs.Judgement.{judged}
 use Rattle.hb_table.specs.declared.judgement.Judged.TheVariants.{Admitted}
-use Rattle.hb_world.specs.Trace.{recv, sent, went_on}
+use Rattle.hb_world.specs.Trace.{recv, sent, came_on, went_on}
 use Rattle.hb_world.specs.declared.entry.Entry.{Entry}
 use Rattle.hb_world.specs.declared.entry.Entry.TheVariants as e
 use Rattle.hb_headline.specs.Access.{Admits, GoesAdmitted}
 use Rattle.hb_headline.specs.Dials.{IsDialled, UpstreamIs}
 use Rattle.hb_headline.specs.Good.{data_of, told_so, tunnelled, life, LifeMeetsTheHeadline}
 use Rattle.hb_headline.specs.Headline.{Headline}
-use Rattle.hb_headline.specs.Held.{Applied, AreRead, AreTold, made_by, on_link}
+use Rattle.hb_headline.specs.Held.{Applied, AreRead, AllRead, AreTold, made_by, on_link}
 use Rattle.hb_headline.specs.Relay.{IsFront, TunnelRelaysUp, LinkRelaysDown, begun_on, data_with}
 use Rattle.hb_headline.proofs.Dials.{is_dialled}
 use Rattle.hb_headline.proofs.OneTarget.{one_dial}
@@ -115,6 +116,10 @@ dial_in _ = []
 none_dialled : (front behind more : List Upstream) → (front ++ upstream 3 2 1 ∷ behind) ++ more ≡ [] → ⊥
 none_dialled [] behind more is = cc
 none_dialled (d ∷ front) behind more is = cc
+
+no_frame : HasNoFrame []
+no_frame f spelled more spells is =
+    absurd (let none = is ∙ ap (λ (xs : List ℕ). xs ++ more) spells.whole in cc)
 
 -- DATA without padding is lent whole
 lent_whole : (bytes : List ℕ) → lent_of (data_of bytes) ≡ bytes
@@ -358,6 +363,50 @@ module _ (g : NodeConfig) (at to : Target) (bytes : List ℕ) (r : Response) (up
       let others : tail ≡ rest ++ after = cc in
       subst (λ (es : List Entry). AreTold es (answer ∷ [])) front (one_told rest after others)
 
+  -- at once
+  none_read : AllRead (e.Dialled 1 at whys.Discovery ∷ e.Opened 1 ∷ []) 1 []
+  none_read = record {
+    frames = [];
+    partial = [];
+    framed = record { joined = refl; partial = no_frame };
+    read = ap (map response_of) no_messages;
+  }
+
+  one_read : (rest after : List Entry) → tail ≡ rest ++ after → AllRead (told_so at bytes ++ rest) 1 (r ∷ [])
+  one_read rest after are =
+      let none : recv 1 rest ≡ [] =
+      none_first (recv 1 rest) (recv 1 after) (ap (recv 1) are ∙ flat_map-append (came_on 1) rest after) in
+      record {
+        frames = data_of bytes ∷ [];
+        partial = recv 1 rest;
+        framed = record {
+          joined = (spelling (data_of bytes), recv 1 rest, spells bytes small, refl, refl);
+          partial = subst HasNoFrame (sym none) no_frame;
+        };
+        read = ap (λ (bs : List ℕ). map response_of (framed_of longest_message bs).messages)
+            (append-nil (lent_of (data_of bytes)) ∙ lent_whole bytes) ∙ read;
+      }
+
+  at_once : (before after : List Entry) → trace ≡ before ++ after → (d : ℕ) → IsControl d before → Was (is_opened_of d) before
+      → AllRead before d (flat_map (on_link d) (applied before))
+  at_once [] after are d control opened = absurd (false≢true control)
+  at_once (a ∷ []) after are d control opened =
+      let first : e.Dialled 1 at whys.Discovery ≡ a = cc in
+      absurd (false≢true (ap (λ (x : Entry). list_any (is_opened_of d) (x ∷ [])) first ∙ opened))
+  at_once (a ∷ b ∷ []) after are d control opened =
+      let front : e.Dialled 1 at whys.Discovery ∷ e.Opened 1 ∷ [] ≡ a ∷ b ∷ [] = cc in
+      subst (λ (es : List Entry). AllRead es d []) front
+      (subst (λ (k : ℕ). AllRead (e.Dialled 1 at whys.Discovery ∷ e.Opened 1 ∷ []) k [])
+      (sym (the_first d (ap (list_any (is_control_of d)) front ∙ control))) none_read)
+  at_once (a ∷ b ∷ c ∷ rest) after are d control opened =
+      let front : told_so at bytes ++ rest ≡ a ∷ b ∷ c ∷ rest = cc in
+      let others : tail ≡ rest ++ after = cc in
+      let here : IsControl d (told_so at bytes ++ rest) = ap (list_any (is_control_of d)) front ∙ control in
+      subst (λ (es : List Entry). AllRead es d (flat_map (on_link d) (answer ∷ []))) front
+      (subst (λ (k : ℕ). AllRead (told_so at bytes ++ rest) k (flat_map (on_link k) (answer ∷ []))) (sym (the_first d
+      (ap (λ (b : Bool). (1 == d) || b) (sym (none_in_front (is_control_of d) tail rest after others refl)) ∙ here)))
+      (one_read rest after others))
+
   grows : (before more : List Entry) → (later : List Applied) × (applied (before ++ more) ≡ applied before ++ later)
   grows [] more = (applied more, refl)
   grows (a ∷ []) more = (applied (a ∷ more), refl)
@@ -493,7 +542,11 @@ module _ (g : NodeConfig) (at to : Target) (bytes : List ℕ) (r : Response) (up
       down = relays_down;
     };
     dialled = record { tunnels = dialled; plain = λ l u v own other. absurd (no_relay trace [] refl u l own) };
-    held = record { told = told; grows = λ before more after are. grows before more };
+    held = record {
+      told = told;
+      grows = λ before more after are. grows before more;
+      at_once = λ before z after are more d control living opened. at_once before (z ∷ after) are d control opened;
+    };
     admitted = goes;
     revoked = λ before z after are more. record {
       tunnels = λ l s u own living. stands before (z ∷ after) are l s u own;

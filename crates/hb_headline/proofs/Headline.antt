@@ -1,5 +1,6 @@
 -- A lawful trace meets the headline.
 use Rattle.std.proofs.Common.{◌≡◌, ◌⊎◌, ℕ, ◌≤◌, true, List, [], ◌∷◌, ◌++◌, length, refl, ap, sym, ◌∙◌, subst, arith, length-append}
+use Rattle.std.specs.List.{flat_map}
 use Rattle.std.proofs.lemmas.List.{append-nil, append_assoc}
 use Rattle.std.proofs.lemmas.List.Concat.{flat_map-append}
 use Rattle.hb_base.specs.declared.door.Door.TheVariants as door
@@ -31,9 +32,10 @@ use Rattle.hb_world.specs.declared.entry.Entry.{Entry}
 use Rattle.hb_world.specs.declared.entry.Entry.TheVariants as e
 use Rattle.hb_headline.specs.Access.{Admits, AreAdmitted, door_at, AdmitsPlain, GoesAdmitted, Stands}
 use Rattle.hb_headline.specs.Headline.{LawfulKeepsTheHeadline}
-use Rattle.hb_headline.specs.Held.{Applied, Holds, made_by}
+use Rattle.hb_headline.specs.Held.{Applied, on_link, AllRead, Holds, made_by}
 use Rattle.hb_headline.specs.Relay.{PlainRelays, TunnelRelaysUp, LinkRelaysDown, begin_with, BeganIsNotOne, data_with}
 use Rattle.hb_headline.proofs.Access.{admits_up}
+use Rattle.hb_headline.proofs.AtOnce.{all_read}
 use Rattle.hb_headline.proofs.Dials.{lawful_upstreams}
 use Rattle.hb_headline.proofs.Down.{relayed, unasked_none, down_admitted}
 use Rattle.hb_headline.proofs.Fronts.{front_at, split_at, grows_at, entries_at, place_at}
@@ -133,20 +135,6 @@ module _ (g : NodeConfig) (trace : List Entry) (h : Lawful g trace) where
       let at = behind 0 before in
       relays_up g at.machine (front_of before) at.run before (entries_are before after are) (laws_at before) l s u own
 
-  holds : Holds trace applied
-  holds = record {
-    told = λ before after are. are_told g before (front_of before) (entries_are before after are) (laws_at before);
-    grows = λ before more after are.
-        let most : length (without_doors before) ≤ length (without_doors (before ++ more)) =
-        omega (arith, ap length (without_append before more), length-append (without_doors before) (without_doors more)) in
-        let split = grows_at (length (without_doors before)) (length (without_doors (before ++ more))) most h.points in (
-          applied_of (control_of split.back),
-          ap (λ (ps : List Point). applied_of (control_of ps)) split.is
-              ∙ ap applied_of (flat_map-append control_in (front_of before) split.back)
-              ∙ flat_map-append applied_in (control_of (front_of before)) (control_of split.back),
-        );
-  }
-
   -- AT A PLACE of the trace that is no call at a door
   module _ (before : List Entry) (z : Entry) (after : List Entry) (are : trace ≡ before ++ z ∷ after)
       (stays : without_doors (z ∷ after) ≡ z ∷ without_doors after)
@@ -166,6 +154,25 @@ module _ (g : NodeConfig) (trace : List Entry) (h : Lawful g trace) where
       by_responses : (P : Resources → Type 0) → P (messages.held g (control_of place_there.front)) → P (made_by g (applied before))
       by_responses P holds =
           subst P (made_is g place_there.front ∙ ap (λ (ps : List Point). made_by g (applied_of (control_of ps))) (sym front_same)) holds
+
+  holds : Holds trace applied
+  holds = record {
+    told = λ before after are. are_told g before (front_of before) (entries_are before after are) (laws_at before);
+    grows = λ before more after are.
+        let most : length (without_doors before) ≤ length (without_doors (before ++ more)) =
+        omega (arith, ap length (without_append before more), length-append (without_doors before) (without_doors more)) in
+        let split = grows_at (length (without_doors before)) (length (without_doors (before ++ more))) most h.points in (
+          applied_of (control_of split.back),
+          ap (λ (ps : List Point). applied_of (control_of ps)) split.is
+              ∙ ap applied_of (flat_map-append control_in (front_of before) split.back)
+              ∙ flat_map-append applied_in (control_of (front_of before)) (control_of split.back),
+        );
+    at_once = λ before z after are more d control living opened.
+        let at = place_there before z after are (more_stays z after more) in
+        subst (λ (ps : List Point). AllRead before d (flat_map (on_link d) (applied_of (control_of ps))))
+        (sym (front_same before z after are (more_stays z after more)))
+        (all_read g trace h at.front at.p at.rest z at.points_are at.is more before at.before_is d control living opened);
+  }
 
   -- where more comes
   stands : (before : List Entry) (z : Entry) (after : List Entry) → trace ≡ before ++ z ∷ after → is_more z ≡ true

@@ -47,7 +47,7 @@ folds held (_ ∷ points) = folds held points
 pub made_is : (g : NodeConfig) (front : List Point) → messages.held g (control_of front) ≡ made_by g (applied_of (control_of front))
 made_is g front = folds (at_start g) (control_of front)
 
-same : (d : ℕ) (points : List point.Point) → flat_map (on_link d) (applied_of points) ≡ responses d points
+pub same : (d : ℕ) (points : List point.Point) → flat_map (on_link d) (applied_of points) ≡ responses d points
 same d [] = refl
 same d (point.applied l r ∷ points) = ap (λ (rs : List Response). cond (l == d) (r ∷ []) [] ++ rs) (same d points)
 same d (_ ∷ points) = same d points

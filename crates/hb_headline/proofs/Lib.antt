@@ -1,6 +1,8 @@
 pub mod Access
+pub mod AtOnce
 pub mod Begun
 pub mod Chunks
+pub mod DataCame
 pub mod Dials
 pub mod Down
 pub mod Front

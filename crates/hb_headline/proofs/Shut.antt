@@ -191,7 +191,7 @@ module _ (s : ℕ) where
   none_goes false true is = cc
   none_goes false false is = cc
 
-  goes_open : (st : States) (o : Option Sides) → data_answer s (state_by o (state_of_others st s)) ≡ Ok step.Goes
+  pub goes_open : (st : States) (o : Option Sides) → data_answer s (state_by o (state_of_others st s)) ≡ Ok step.Goes
       → (w : Sides) × (o ≡ Some w) × (w.peer ≡ true)
   goes_open st None is = absurd (none_goes (is_even s || nat_lt st.highest s) (is_among st.resets s) is)
   goes_open st (Some w) is = (w, refl, open_by w.own w.peer is)
@@ -204,7 +204,7 @@ module _ (s : ℕ) where
   went_other c (found.Chunk k end) new is = absurd is
   went_other c _ new is = tt
 
-  chunk_goes : (c : Core) (g : Glance) (bytes : List ℕ) (new : Core) (end : Bool) → Handles c g bytes new (found.Chunk s end)
+  pub chunk_goes : (c : Core) (g : Glance) (bytes : List ℕ) (new : Core) (end : Bool) → Handles c g bytes new (found.Chunk s end)
       → answer_of c.streams data_kind s ≡ Ok step.Goes
   chunk_goes c g bytes new end is =
       handles_so (Went c) (went_other c) c g bytes new (found.Chunk s end) (record {
@@ -220,11 +220,12 @@ module _ (s : ℕ) where
       false≢true (sym (shut.1 side.0 side.1) ∙ side.2)
 
   -- DATA OF THE STREAM THAT ISN'T TOLD ends it: by an error of the connection or of the stream, or it was reset a short while ago
-  abbrev Ends : Core → Found → Core → Type 0
+  abbrev pub Ends : Core → Found → Core → Type 0
   Ends c (found.Chunk k end) new = Unit {0}
   Ends c (found.Broken k code) new = (k ≡ s) × (is_of_idle (data_answer s (state_of c.streams s)) ≡ false)
   Ends c found.Silent new = state_of c.streams s ≡ Reset
-  Ends c told new = new.over ≡ true
+  Ends c (found.Fault code) new = new.over ≡ true
+  Ends c told new = ⊥
 
   module _ (c : Core) where
     abbrev Shows : Outcome → Type 0
@@ -316,22 +317,28 @@ module _ (s : ℕ) where
   dead_by c new found.Silent untold most ends on =
       inr (shut_at new.streams (most (ap (λ (x : State). is_of_idle (data_answer s x)) ends))
       (ap (λ (x : Sides). x.peer) (on s ∙ ap sides_of ends)))
-  dead_by c new _ untold most ends on = inl ends
+  dead_by c new (found.Fault code) untold most ends on = inl ends
+  dead_by c new _ untold most ends on = absurd ends
 
-  dead_now : (role : Role) (c : Core) (f : RawFrame) (new : Core) (told : Found) → Lives role calm c → f.kind ≡ data_kind → f.stream ≡ s
-      → IsUntold told → After c (got f) new told → Dead calm new
-  dead_now role c f new told lives kind stream untold after =
-      dead_by c new told untold
-      (λ used. frame_rises s c (glance_at f) (lent_of f) new told (low role c.streams (get c.streams.active s) lives.0 refl used) after.1)
-      (handles_by c (is_misplaced c (glance.Data s (length f.payload) (has_flag f end_stream_flag))) (length f.payload)
-      (has_flag f end_stream_flag) (lent_of f) new told handled)
-      (handles_on (is_misplaced c (glance_at f)) c (glance_at f) (lent_of f) new told after.1)
+  pub ends_by : (c : Core) (f : RawFrame) (new : Core) (told : Found) → f.kind ≡ data_kind → f.stream ≡ s → After c (got f) new told
+      → Ends c told new
+  ends_by c f new told kind stream after =
+      handles_by c (is_misplaced c (glance.Data s (length f.payload) (has_flag f end_stream_flag))) (length f.payload)
+      (has_flag f end_stream_flag) (lent_of f) new told handled
     where
       handled : Handles c (glance.Data s (length f.payload) (has_flag f end_stream_flag)) (lent_of f) new told
       handled =
           subst (λ (g : Glance). Handles c g (lent_of f) new told)
           ((data_are f (eq-eqb f.kind data_kind kind)).0
           ∙ ap (λ (n : ℕ). glance.Data n (length f.payload) (has_flag f end_stream_flag)) stream) after.1
+
+  dead_now : (role : Role) (c : Core) (f : RawFrame) (new : Core) (told : Found) → Lives role calm c → f.kind ≡ data_kind → f.stream ≡ s
+      → IsUntold told → After c (got f) new told → Dead calm new
+  dead_now role c f new told lives kind stream untold after =
+      dead_by c new told untold
+      (λ used. frame_rises s c (glance_at f) (lent_of f) new told (low role c.streams (get c.streams.active s) lives.0 refl used) after.1)
+      (ends_by c f new told kind stream after)
+      (handles_on (is_misplaced c (glance_at f)) c (glance_at f) (lent_of f) new told after.1)
 
   -- SO WHAT IS TOLD is a front of the DATA that came
 
@@ -353,7 +360,7 @@ module _ (s : ℕ) where
       by (got f) _ after none = none
       by _ told after none = none
 
-  data_is : (f : RawFrame) → f.kind ≡ data_kind → f.stream ≡ s → data_in s f ≡ lent_of f
+  pub data_is : (f : RawFrame) → f.kind ≡ data_kind → f.stream ≡ s → data_in s f ≡ lent_of f
   data_is f kind stream =
       ap₂ (λ (a b : Bool). cond (a && b) (lent_of f) []) (eq-eqb f.kind data_kind kind) (eq-eqb f.stream s stream)
 
