@@ -328,7 +328,7 @@ module _ (g : NodeConfig) (at to : Target) (bytes : List ℕ) (r : Response) (up
       partial = recv d before;
       framed = refl;
       came = [];
-      picked = refl;
+      front = record { rest = []; is = refl };
       more = [];
       read = ap (map response_of) no_messages;
     };
@@ -348,7 +348,10 @@ module _ (g : NodeConfig) (at to : Target) (bytes : List ℕ) (r : Response) (up
           partial = recv 1 rest;
           framed = (spelling (data_of bytes), recv 1 rest, spells bytes small, refl, refl);
           came = bytes;
-          picked = inr (refl, [], sym (lent_whole bytes) ∙ sym (append-nil (lent_of (data_of bytes))), refl);
+          front = record {
+            rest = [];
+            is = append-nil (lent_of (data_of bytes)) ∙ lent_whole bytes ∙ sym (append-nil bytes);
+          };
           more = [];
           read = read;
         });

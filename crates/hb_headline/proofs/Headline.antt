@@ -157,7 +157,9 @@ module _ (g : NodeConfig) (trace : List Entry) (h : Lawful g trace) where
 
   holds : Holds trace applied
   holds = record {
-    told = λ before after are. are_told g before (front_of before) (entries_are before after are) (laws_at before);
+    told = λ before after are.
+        let at = behind 0 before in
+        are_told g at.machine before (front_of before) at.run (entries_are before after are) (laws_at before);
     grows = λ before more after are.
         let most : length (without_doors before) ≤ length (without_doors (before ++ more)) =
         omega (arith, ap length (without_append before more), length-append (without_doors before) (without_doors more)) in

@@ -1,35 +1,35 @@
 -- What is held in a lawful trace is what the responses make that came from the control plane.
-use Rattle.std.proofs.Common.{◌≡◌, inl, inr, ℕ, ◌==◌, ◌||◌, Bool, true, false, cond, List, [], ◌∷◌, ◌++◌, map, Ok, fold, refl, ap, sym, ◌∙◌, subst}
+use Rattle.std.proofs.Common.{◌≡◌, ℕ, ◌==◌, ◌||◌, Bool, true, false, cond, List, [], ◌∷◌, ◌++◌, map, Ok, fold, refl, ap, sym, ◌∙◌, subst}
 use Rattle.std.specs.List.{flat_map, list_any, AllByRecursion}
 use Rattle.std.proofs.lemmas.Bool.{false≢true}
 use Rattle.std.proofs.lemmas.List.{append_assoc}
 use Rattle.std.proofs.lemmas.List.Concat.{flat_map-append}
 use Rattle.std.proofs.lemmas.List.Folds.{list_any-append}
-use Rattle.hb_conn.specs.declared.found.Found.{Found}
-use Rattle.hb_conn.specs.declared.found.Found.TheVariants as found
-use Rattle.hb_conn.specs.declared.machine.Core.{Core}
 use Rattle.hb_disco.specs.declared.response.Response.{Response}
-use Rattle.hb_frames.specs.Bodies.{lent_of}
 use Rattle.hb_frames.specs.Frames.{Joins}
 use Rattle.hb_held.specs.Held.{Resources}
-use Rattle.hb_history.specs.Points as history
-use Rattle.hb_history.specs.Points.{Move, got, After, Runs, got_by, frames_got, data_of, data_in}
+use Rattle.hb_history.specs.Points.{frames_got}
 use Rattle.hb_laws.specs.Lawful.{Laws}
 use Rattle.hb_model.specs.Calls.{is_control_of, IsControl}
 use Rattle.hb_model.specs.Messages as messages
 use Rattle.hb_model.specs.Messages.{data_came, responses}
 use Rattle.hb_model.specs.Point as point
-use Rattle.hb_model.specs.Point.{moves}
+use Rattle.hb_model.specs.Point.{moves, tellings}
 use Rattle.hb_model.specs.declared.config.NodeConfig.{NodeConfig}
 use Rattle.hb_proxy.specs.Doors.{without_doors}
 use Rattle.hb_proxy.specs.Held.{at_start}
+use Rattle.hb_history.specs.OwnFrames.{stage}
+use Rattle.hb_model.proofs.OwnFrames.{suits_asks, all_suited}
+use Rattle.hb_proxy.proofs.Projection.{control_runs}
+use Rattle.hb_proxy.specs.Machine.{Machine}
+use Rattle.hb_proxy.specs.Runs.{StandsFor}
 use Rattle.hb_proxy.specs.Points.{Point, entries, control_of}
-use Rattle.hb_world.specs.Trace.{recv}
+use Rattle.hb_world.specs.Trace.{recv, sent}
 use Rattle.hb_world.specs.declared.entry.Entry.{Entry}
-use Rattle.hb_headline.specs.Held.{Applied, apply, made_by, on_link, PicksAny, AreRead, AreTold}
+use Rattle.hb_headline.specs.Held.{Applied, apply, made_by, on_link, AreRead, AreTold}
 use Rattle.hb_laws.proofs.Doors.{any_without, came_without}
 use Rattle.hb_laws.proofs.Tells.{told}
-use Rattle.hb_headline.proofs.Chunks.{chunk_of_frame}
+use Rattle.hb_headline.proofs.DataCame.{front_handed}
 
 abbrev pub applied_in : point.Point → List Applied
 applied_in (point.applied l r) = record { link = l; response = r } ∷ []
@@ -52,17 +52,6 @@ same d [] = refl
 same d (point.applied l r ∷ points) = ap (λ (rs : List Response). cond (l == d) (r ∷ []) [] ++ rs) (same d points)
 same d (_ ∷ points) = same d points
 
-picks : (c : Core) (points : List history.Point) (new : Core) → Runs c points new → PicksAny (frames_got points) (flat_map data_in points)
-picks c [] new runs = refl
-picks c (p ∷ ps) new runs = by p.move p.told runs.1 (picks runs.0 ps new runs.2)
-  where
-    by : (m : Move) (told : Found) → After c m runs.0 told → PicksAny (frames_got ps) (flat_map data_in ps)
-        → PicksAny (got_by (history.point m told) ++ frames_got ps) (data_of m told ++ flat_map data_in ps)
-    by (got f) (found.Chunk k end) after more =
-        inr ((chunk_of_frame c f (lent_of f) runs.0 k end after.1).0, flat_map data_in ps, refl, more)
-    by (got f) _ after more = inl more
-    by _ told after more = more
-
 -- what passes a test in front passes it
 or_left : (a b : Bool) → a ≡ true → (a || b) ≡ true
 or_left true b is = refl
@@ -71,7 +60,7 @@ or_left false b is = absurd (false≢true is)
 in_front : (is : Entry → Bool) (xs ys : List Entry) → list_any is xs ≡ true → list_any is (xs ++ ys) ≡ true
 in_front is xs ys was = list_any-append is xs ys ∙ or_left (list_any is xs) (list_any is ys) was
 
-module _ (g : NodeConfig) (before : List Entry) (front : List Point) (before_is : entries front ≡ without_doors before)
+module _ (g : NodeConfig) (x : Machine) (before : List Entry) (front : List Point) (run : StandsFor g x front) (before_is : entries front ≡ without_doors before)
     (laws : Laws g front)
   where
     read : (d : ℕ) → IsControl d before → AreRead before d (flat_map (on_link d) (applied_of (control_of front)))
@@ -87,7 +76,10 @@ module _ (g : NodeConfig) (before : List Entry) (front : List Point) (before_is 
           partial = one.conn.receiver.reader.held;
           framed = subst (Joins (frames_got (moves d (control_of front))) one.conn.receiver.reader.held) came one.stands.came.frames_are;
           came = data_came d (control_of front);
-          picked = picks _ (moves d (control_of front)) _ one.stands.runs;
+          front = front_handed (moves d (control_of front)) (tellings d (control_of front)) (recv d (point.entries (control_of front)))
+              (sent d (point.entries (control_of front))) one.conn one.stands
+              (suits_asks (x.control.links d).phase (stage (moves d (control_of front)))
+              (all_suited g x.control (control_of front) (control_runs g x front run) d));
           more = applied.more;
           read = applied.read ∙ ap (λ (rs : List Response). map Ok rs ++ applied.more) (sym (same d (control_of front)));
         }

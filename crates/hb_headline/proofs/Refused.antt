@@ -26,9 +26,10 @@ use Rattle.hb_world.specs.Trace.{recv}
 use Rattle.hb_world.specs.declared.entry.Entry.{Entry}
 use Rattle.hb_world.specs.declared.entry.Entry.TheVariants as e
 use Rattle.hb_headline.specs.Access.{AdmitsPlain, peer_in, Admits, AreAdmitted}
-use Rattle.hb_headline.specs.Held.{Applied, AreRead, AreTold, PicksAny, made_by, on_link}
+use Rattle.hb_headline.specs.Held.{Applied, AreRead, AreTold, made_by, on_link}
 use Rattle.hb_headline.specs.Refused.{SendsUnfronted, TunnelsUnfronted, InventsBack, SendsEarly, invented, InventsData, unasked, SendsUnasked, DialsTwice, DialsElsewhere, AdmitsElsewhere, AdmitsUntold, untold, AdmitsForged, unanswered, SendsUnborn, CutsUnadmitted, KeepsUnadmitted, plain_untold, RelaysUntold, KeepsPlain}
-use Rattle.hb_headline.specs.Relay.{data_with}
+use Rattle.hb_headline.specs.Relay.{IsFront, data_on, data_with}
+use Rattle.hb_headline.proofs.Relay.{none_first}
 use Rattle.hb_headline.proofs.OneFrame.{one_frame}
 use Rattle.hb_headline.proofs.OneTarget.{one_dial}
 
@@ -164,9 +165,9 @@ cuts_unadmitted to came byte g met =
 
 -- NOTHING CAME, so no message did, and no response is applied
 
-no_frames : (fs : List RawFrame) (rest : List ℕ) → Joins fs rest [] → (bs : List ℕ) → PicksAny fs bs → bs ≡ []
-no_frames [] rest join bs pick = pick
-no_frames (f ∷ fs) rest join bs pick = absurd (cc)
+no_frames : (fs : List RawFrame) (rest : List ℕ) → Joins fs rest [] → (bs : List ℕ) → IsFront bs (data_on 1 fs) → bs ≡ []
+no_frames [] rest join bs front = none_first bs front.rest front.is
+no_frames (f ∷ fs) rest join bs front = absurd (cc)
 
 pub no_messages : (framed_of longest_message []).messages ≡ []
 unfolding framed_of framed_within
@@ -178,7 +179,7 @@ no_responses (r ∷ rs) more is = absurd cc
 
 unread : (trace : List Entry) (d : ℕ) (rs : List Response) → recv d trace ≡ [] → AreRead trace d rs → rs ≡ []
 unread trace d rs none read =
-    let came = no_frames read.frames read.partial (subst (Joins read.frames read.partial) none read.framed) read.came read.picked in
+    let came = no_frames read.frames read.partial (subst (Joins read.frames read.partial) none read.framed) read.came read.front in
     no_responses rs read.more
     (sym (ap (map response_of) no_messages) ∙ ap (λ (bs : List ℕ). map response_of (framed_of longest_message bs).messages) (sym came)
     ∙ read.read)

@@ -1,12 +1,10 @@
 -- What is held is what responses make that came from the control plane: said of a trace.
-use Rattle.std.specs.Prelude.{◌≡◌, ◌⊎◌, ℕ, ◌==◌, true, if◌then◌else◌, List, [], ◌∷◌, ◌++◌, fold, map, Result, Ok}
+use Rattle.std.specs.Prelude.{◌≡◌, ℕ, ◌==◌, true, if◌then◌else◌, List, [], ◌∷◌, ◌++◌, fold, map, Result, Ok}
 use Rattle.std.specs.List.{flat_map, AllByRecursion}
 use Rattle.hb_disco.specs.declared.response.Response.{Response}
 use Rattle.hb_disco.specs.Response.{response_of}
 use Rattle.hb_disco.specs.declared.response.ResponseFault.{ResponseFault}
-use Rattle.hb_frames.specs.Bodies.{lent_of}
 use Rattle.hb_frames.specs.Frames.{AreFrames, Joins}
-use Rattle.hb_frames.specs.Numbers.{data_kind}
 use Rattle.hb_frames.specs.RawFrame.{RawFrame}
 use Rattle.hb_grpc.specs.Framed.{framed_of}
 use Rattle.hb_held.specs.Held.{Resources}
@@ -18,7 +16,7 @@ use Rattle.hb_model.specs.declared.config.NodeConfig.{NodeConfig}
 use Rattle.hb_proxy.specs.Held.{at_start}
 use Rattle.hb_world.specs.Trace.{recv, lives}
 use Rattle.hb_world.specs.declared.entry.Entry.{Entry}
-use Rattle.hb_headline.specs.Relay.{data_on}
+use Rattle.hb_headline.specs.Relay.{IsFront, data_on}
 
 -- a response that was applied, and the link to the control plane on which it came
 pub record Applied : Type 0 where
@@ -35,19 +33,13 @@ apply held a = after_response held a.response
 abbrev pub made_by : NodeConfig → List Applied → Resources
 made_by g applied = fold apply (at_start g) applied
 
--- these are octets of DATA, without padding, in order: of each DATA frame all or none
-abbrev pub PicksAny : List RawFrame → List ℕ → Type 0
-PicksAny [] bytes = bytes ≡ []
-PicksAny (f ∷ fs) bytes =
-    PicksAny fs bytes ⊎ ((f.kind ≡ data_kind) × (more : List ℕ) × (bytes ≡ lent_of f ++ more) × PicksAny fs more)
-
--- these responses are the first messages of DATA that came on a link to the control plane
+-- these responses are the first messages of a front of the DATA that came on the stream of a link to the control plane
 pub record AreRead (trace : List Entry) (d : ℕ) (responses : List Response) : Type 0 where
   pub frames : List RawFrame
   pub partial : List ℕ
   pub framed : Joins frames partial (recv d trace)
   pub came : List ℕ
-  pub picked : PicksAny frames came
+  pub front : IsFront came (data_on 1 frames)
   pub more : List (Result Response ResponseFault)
   pub read : map response_of (framed_of longest_message came).messages ≡ map Ok responses ++ more
 
