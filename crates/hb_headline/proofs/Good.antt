@@ -117,12 +117,12 @@ none_dialled : (front behind more : List Upstream) → (front ++ upstream 3 2 1 
 none_dialled [] behind more is = cc
 none_dialled (d ∷ front) behind more is = cc
 
-no_frame : HasNoFrame []
+pub no_frame : HasNoFrame []
 no_frame f spelled more spells is =
     absurd (let none = is ∙ ap (λ (xs : List ℕ). xs ++ more) spells.whole in cc)
 
 -- DATA without padding is lent whole
-lent_whole : (bytes : List ℕ) → lent_of (data_of bytes) ≡ bytes
+pub lent_whole : (bytes : List ℕ) → lent_of (data_of bytes) ≡ bytes
 lent_whole bytes = take_all (length bytes - 0 - 0) bytes (omega arith)
 
 module _ (g : NodeConfig) (at to : Target) (bytes : List ℕ) (r : Response) (up down : ℕ) (small : length bytes < 16777216)

@@ -21,6 +21,7 @@ pub mod Refused
 pub mod Relay
 pub mod RelayUp
 pub mod Revoked
+pub mod Revoking
 pub mod Shut
 pub mod Targets
 pub mod Tunnels

@@ -199,7 +199,7 @@ none_on (a ∷ applied) only none =
     ap (λ (rs : List Response). rs ++ flat_map (on_link 1) applied) (sym here) ∙ none in
     absurd cc
 
-each_first : (applied : List Applied) → AllByRecursion (λ a. ((1 == a.link) || false) ≡ true) applied
+pub each_first : (applied : List Applied) → AllByRecursion (λ a. ((1 == a.link) || false) ≡ true) applied
     → AllByRecursion (λ a. a.link ≡ 1) applied
 each_first [] each = tt
 each_first (a ∷ applied) each = (the_first a.link each.0, each_first applied each.1)

@@ -1,18 +1,25 @@
 -- Small traces that don't meet the headline. Link 1 is accepted in them, and link 2 is its upstream, but where the control plane is
 -- dialled first.
-use Rattle.std.specs.Prelude.{◌≢◌, ℕ, List, [], ◌∷◌, ◌++◌}
+use Rattle.std.specs.Prelude.{◌≡◌, ◌≢◌, ℕ, ◌<◌, List, [], ◌∷◌, ◌++◌, length, map, Ok}
 use Rattle.hb_base.specs.declared.door.Door.TheVariants as door
 use Rattle.hb_base.specs.declared.door.Why.TheVariants as whys
 use Rattle.hb_base.specs.declared.peer.Peer.{Peer}
 use Rattle.hb_base.specs.declared.target.Target.{Target}
+use Rattle.hb_disco.specs.Response.{response_of}
+use Rattle.hb_disco.specs.declared.response.Response.{Response}
 use Rattle.hb_frames.specs.RawFrame.{spelling}
+use Rattle.hb_grpc.specs.Framed.{framed_of}
 use Rattle.hb_held.specs.Held.{Resources}
+use Rattle.hb_held.specs.Outcome.{after_response}
+use Rattle.hb_model.specs.Discovery.{longest_message}
 use Rattle.hb_model.specs.declared.config.NodeConfig.{NodeConfig}
+use Rattle.hb_proxy.specs.Held.{at_start}
 use Rattle.hb_table.specs.Judgement.{judged}
 use Rattle.hb_table.specs.declared.judgement.Judged.TheVariants.{Admitted}
 use Rattle.hb_world.specs.declared.entry.Entry.{Entry}
 use Rattle.hb_world.specs.declared.entry.Entry.TheVariants as e
 use Rattle.hb_headline.specs.Access.{Admits}
+use Rattle.hb_headline.specs.Good.{data_of}
 use Rattle.hb_headline.specs.Headline.{Headline}
 use Rattle.hb_headline.specs.Relay.{data_with}
 
@@ -106,3 +113,15 @@ RelaysUntold = (to : Target) (came bytes : List ℕ) → NotMet (plain_untold to
 
 abbrev pub KeepsPlain : Type 0
 KeepsPlain = (to : Target) (came : List ℕ) → NotMet (plain_untold to came ++ e.Tick ∷ [])
+
+-- the response that was applied last no longer admits anybody there: it came whole, and the upstream lives at a tick
+abbrev pub revoked_so : (at to : Target) → (first came later : List ℕ) → List Entry
+revoked_so at to first came later =
+    e.Dialled 1 at whys.Discovery ∷ e.Opened 1 ∷ e.Came 1 (spelling (data_of first)) ∷ e.Accepted 2 door.Inbound ∷ e.Came 2 came
+    ∷ e.Dialled 3 to (whys.Upstream 2 1) ∷ e.Opened 3 ∷ e.Came 1 (spelling (data_of later)) ∷ []
+
+abbrev pub KeepsRevoked : Type 0
+KeepsRevoked = (at to : Target) (first came later : List ℕ) (a b : Response) (g : NodeConfig) → length first < 16777216
+    → length later < 16777216 → map response_of (framed_of longest_message (first ++ later)).messages ≡ Ok a ∷ Ok b ∷ []
+    → ((peer : Peer) → judged (after_response (after_response (at_start g) a) b) peer to ≢ Admitted)
+    → Headline g (revoked_so at to first came later ++ e.Tick ∷ []) → ⊥

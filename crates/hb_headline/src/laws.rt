@@ -4,7 +4,7 @@ ghost use Rattle.hb_headline.specs.Good.{LifeMeetsTheHeadline};
 ghost use Rattle.hb_headline.specs.Headline.{LawfulKeepsTheHeadline};
 ghost use Rattle.hb_headline.specs.Refused.{SendsUnfronted, TunnelsUnfronted, InventsBack, SendsEarly, InventsData};
 ghost use Rattle.hb_headline.specs.Refused.{SendsUnasked, DialsTwice, DialsElsewhere, AdmitsElsewhere, AdmitsUntold, AdmitsForged};
-ghost use Rattle.hb_headline.specs.Refused.{SendsUnborn, CutsUnadmitted, KeepsUnadmitted, RelaysUntold, KeepsPlain};
+ghost use Rattle.hb_headline.specs.Refused.{SendsUnborn, CutsUnadmitted, KeepsUnadmitted, RelaysUntold, KeepsPlain, KeepsRevoked};
 ghost use Rattle.hb_headline.specs.Relay.{BeganIsNotOne};
 
 /// Each lawful trace meets the headline.
@@ -13,7 +13,8 @@ pub fn headline_holds()
 {}
 
 /// Small traces don't meet it: bytes that go to a workload without a header, or that it didn't send, or of a stream without one; a second
-/// upstream of a stream; peers who aren't admitted where they go, by nothing that came, or in frames that are cut.
+/// upstream of a stream; peers who aren't admitted where they go, by nothing that came, in frames that are cut, or no
+/// longer.
 pub fn small_traces_are_refused()
     ensures unfronted { SendsUnfronted }
     ensures tunnel { TunnelsUnfronted }
@@ -31,6 +32,7 @@ pub fn small_traces_are_refused()
     ensures kept { KeepsUnadmitted }
     ensures relayed { RelaysUntold }
     ensures plain { KeepsPlain }
+    ensures revoked { KeepsRevoked }
 {}
 
 /// A life of a tunnel with a response that admits its peer meets it.

@@ -1,4 +1,5 @@
 use Rattle.hb_headline.proofs.Refused.{sends_unfronted, tunnels_unfronted, invents_back, sends_early, invents_data, sends_unasked, dials_twice, dials_elsewhere, admits_elsewhere, admits_untold, admits_forged, sends_unborn, cuts_unadmitted, keeps_unadmitted, relays_untold, keeps_plain}
+use Rattle.hb_headline.proofs.Revoking.{keeps_revoked}
 use Rattle.hb_headline.proofs.laws.small_traces_are_refused.Goals as goal
 
 pub returns : goal.returns
@@ -19,4 +20,5 @@ returns c = record {
   kept = keeps_unadmitted;
   relayed = relays_untold;
   plain = keeps_plain;
+  revoked = keeps_revoked;
 }
