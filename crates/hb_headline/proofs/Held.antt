@@ -60,7 +60,8 @@ or_left false b is = absurd (false≢true is)
 in_front : (is : Entry → Bool) (xs ys : List Entry) → list_any is xs ≡ true → list_any is (xs ++ ys) ≡ true
 in_front is xs ys was = list_any-append is xs ys ∙ or_left (list_any is xs) (list_any is ys) was
 
-module _ (g : NodeConfig) (x : Machine) (before : List Entry) (front : List Point) (run : StandsFor g x front) (before_is : entries front ≡ without_doors before)
+module _ (g : NodeConfig) (x : Machine) (before : List Entry) (front : List Point) (run : StandsFor g x front)
+    (before_is : entries front ≡ without_doors before)
     (laws : Laws g front)
   where
     read : (d : ℕ) → IsControl d before → AreRead before d (flat_map (on_link d) (applied_of (control_of front)))
