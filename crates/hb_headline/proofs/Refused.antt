@@ -7,7 +7,6 @@ use Rattle.std.specs.FinMap.{len, len-empty}
 use Rattle.std.specs.Ordering.{nat_cmp}
 use Rattle.hb_base.specs.declared.door.Door.TheVariants as door
 use Rattle.hb_base.specs.declared.door.Why.TheVariants as whys
-use Rattle.hb_base.specs.declared.peer.Peer.{Peer}
 use Rattle.hb_disco.specs.Response.{response_of}
 use Rattle.hb_disco.specs.declared.response.Response.{Response}
 use Rattle.hb_disco.specs.declared.response.ResponseFault.{ResponseFault}
@@ -103,11 +102,8 @@ none_admitted g applied trace l s u none is =
 no_plain : (g : NodeConfig) (applied : List Applied) (trace : List Entry) (l : ℕ) → applied ≡ [] → AdmitsPlain (made_by g applied) trace l
     → ⊥
 no_plain g applied trace l none is =
-    let peer : Peer = record { ip = is.seen.source.ip; identity = None } in
-    let no : Unknown ≡ Admitted =
-    sym (nobody_admitted g.network g.node g.doors peer is.seen.destination)
-    ∙ ap (λ (some : List Applied). judged (made_by g some) peer is.seen.destination) (sym none) ∙ is.admitted in
-    cc
+    nobody_admitted (made_by g applied) (record { ip = is.seen.source.ip; identity = None }) is.seen.destination
+    (ap (λ (some : List Applied). len (made_by g some).addresses) none ∙ len-empty (slice_cmp nat_cmp) _) is.admitted
 
 none_applied : (trace : List Entry) (applied : List Applied) → ((d : ℕ) → IsControl d trace → ⊥) → AreTold trace applied → applied ≡ []
 none_applied trace [] none told = refl
