@@ -4,6 +4,7 @@ ghost use Rattle.std.specs.Prelude.{◌≡◌};
 ghost use Rattle.std.specs.List.{list_any};
 ghost use Rattle.std.specs.FinMap.{get};
 ghost use Rattle.std.specs.Option.{option_copied, option_map};
+ghost use Rattle.std.specs.Str.{bytes_eq};
 ghost use Rattle.hb_index.specs.Indexed.{AreNamesAt};
 ghost use Rattle.hb_held.specs.Numbers.{number_of, address_numbers};
 ghost use Rattle.hb_held.specs.Lookup.{ip_eq, has_address, is_address, serves_at};
@@ -60,6 +61,13 @@ fn serves_at(network: &Text, ip: Ip, service: &Service) -> bool
 }
 
 impl Held {
+    /// The network is the node's own.
+    pub fn is_network(&self, network: &Text) -> bool
+        ensures { result ≡ bytes_eq network.now self.now.network }
+    {
+        network.as_slice() == self.network.as_slice()
+    }
+
     /// The names of the records with the address, of any network; `None` where there are none.
     fn names_at(&self, ip: Ip) -> Option<&ByName<()>>
         ensures { AreNamesAt address_numbers self.now.addresses (number_of ip) (option_copied result) }
