@@ -1,6 +1,6 @@
 -- What policies say of a connection.
 use Rattle.std.specs.Prelude.{ℕ, Bool, true, false, not, ◌==◌, ◌&&◌, ◌||◌, nat_eq, List, length, Option, Some, None}
-use Rattle.std.specs.List.{list_all, list_any, starts_with, ends_with}
+use Rattle.std.specs.List.{list_all, list_any, position, starts_with, ends_with}
 use Rattle.std.specs.Str.{bytes_eq}
 use Rattle.hb_base.specs.Cidr.{covers}
 use Rattle.hb_base.specs.declared.cidr.Cidr.{Cidr}
@@ -63,6 +63,10 @@ rule_met c r = list_all (clause_met c) r.clauses
 -- a policy fires where one of its rules is met
 abbrev pub fires : Connection → Authorization → Bool
 fires c a = list_any (rule_met c) a.rules
+
+-- the number of the first of its rules that is met, from 0
+abbrev pub first_rule : Connection → Authorization → Option ℕ
+first_rule c a = position (rule_met c) a.rules
 
 abbrev pub is_deny : Action → Bool
 is_deny Deny = true

@@ -6,5 +6,5 @@ mod attribute;
 mod policy;
 mod tally;
 
-pub use policy::fires;
+pub use policy::{fires, first_rule};
 pub use tally::Tally;

@@ -1,7 +1,7 @@
 //! What a policy says of a connection.
 
 ghost use Rattle.std.specs.Prelude.{◌≡◌};
-ghost use Rattle.hb_policy.specs.Policy.{match_met, clause_met, rule_met, fires};
+ghost use Rattle.hb_policy.specs.Policy.{match_met, clause_met, rule_met, fires, first_rule};
 
 use crate::attribute::{NamespaceOf, PrincipalOf, is_avoided, is_met};
 use hb_base::{Peer, Target};
@@ -53,4 +53,14 @@ pub fn fires(a: &Authorization, peer: &Peer, target: Target) -> bool
         .as_slice()
         .iter()
         .any(|rule| is_rule_met(rule, peer, target))
+}
+
+/// The number of the first rule of a policy that a connection of `peer` to `target` meets, from 0; `None` where the policy doesn't fire.
+pub fn first_rule(a: &Authorization, peer: &Peer, target: Target) -> Option<usize>
+    ensures { result ≡ first_rule (record { peer = peer.now; target = target }) a.now }
+{
+    a.rules
+        .as_slice()
+        .iter()
+        .position(|rule| is_rule_met(rule, peer, target))
 }
