@@ -3,3 +3,5 @@ pub mod Chosen
 pub mod Counting
 pub mod Meshes
 pub mod Serving
+pub mod WaypointMeshes
+pub mod Waypoints

@@ -11,12 +11,11 @@ use Rattle.hb_records.specs.declared.address.AddressRecord.TheVariants as record
 use Rattle.hb_records.specs.declared.service.Service.{Service}
 use Rattle.hb_records.specs.declared.workload.Workload.{Workload}
 use Rattle.hb_route.specs.Answer.{Way, by_gateway, straight, no_way}
-use Rattle.hb_route.specs.Laws.{w9, u1, u2, web, sick, plain, unled, guarded, mesh, opened}
+use Rattle.hb_route.specs.Laws.{w9, u1, u2, web, sick, plain, unled, mesh, opened}
 use Rattle.hb_route.specs.Laws.{FewerGoesFirst, SmallerNameGoesFirst, PlainGoesStraight, SickIsPassedOver, NoneIsHealthy}
-use Rattle.hb_route.specs.Laws.{OtherPortIsRefused, UnledPortIsRefused, WaypointIsNeeded, StrangerIsRefused}
+use Rattle.hb_route.specs.Laws.{OtherPortIsRefused, UnledPortIsRefused, StrangerIsRefused}
 use Rattle.hb_route.specs.Laws.{WorkloadIsReached, PlainWorkloadIsReached, ElsewhereGoesStraight}
 use Rattle.hb_route.specs.Laws.{BusierGoesFirst, SickIsReached, GatewayIsPassedBy, ServicePortIsReached, UnledPortIsReached}
-use Rattle.hb_route.specs.Laws.{WaypointIsPassedBy}
 
 abbrev listed : Workload → Workload → Service → List (List ℕ × Versioned AddressRecord)
 listed one two s =
@@ -64,10 +63,6 @@ pub unled_port : UnledPortIsRefused
 unfolding workload_at service_at
 unled_port = rw (are u1 u2 unled) (rw (are u1 u2 unled) refl)
 
-pub waypoint_needed : WaypointIsNeeded
-unfolding workload_at service_at
-waypoint_needed = rw (are u1 u2 guarded) refl
-
 pub stranger : StrangerIsRefused
 unfolding workload_at service_at
 stranger = rw (are u1 u2 web) refl
@@ -105,6 +100,3 @@ service_port wrong = absurd (omega (arith, ap asked (sym fewer ∙ wrong)))
 
 pub unled_reached : UnledPortIsReached → ⊥
 unled_reached wrong = absurd (omega (arith, ap asked (sym unled_port ∙ wrong)))
-
-pub waypoint_passed_by : WaypointIsPassedBy → ⊥
-waypoint_passed_by wrong = absurd (omega (arith, ap asked (sym waypoint_needed ∙ wrong)))

@@ -1,4 +1,4 @@
--- The endpoints of a port of a service.
+-- The places of a service or a waypoint.
 use Rattle.std.proofs.Common.{◌≡◌, ℕ, Bool, true, false, cond, List, [], ◌∷◌, Option, Some, None, slice_get}
 use Rattle.std.proofs.Common.{refl, ap, sym, ◌∙◌, subst, arith, ◌⊎◌, inl, inr}
 use Rattle.std.specs.Prelude.{filter}
@@ -9,12 +9,9 @@ use Rattle.hb_base.specs.declared.ip.Ip.{Ip}
 use Rattle.hb_held.specs.Endpoints.{serves, endpoints}
 use Rattle.hb_held.specs.Held.{Resources}
 use Rattle.hb_held.specs.Lookup.{workloads}
-use Rattle.hb_records.specs.declared.port.Port.{Port}
-use Rattle.hb_records.specs.declared.service.Service.{Service}
 use Rattle.hb_records.specs.declared.workload.Workload.{Workload}
-use Rattle.hb_route.specs.Endpoint.{Place, place_at, place_of, places}
+use Rattle.hb_route.specs.Endpoint.{Place, Leading, port_by, place_at, place_with, place_by, places_by}
 use Rattle.hb_route.specs.Laws.{Serves, PlacesServe, NoPlaceIsMissed}
-use Rattle.hb_route.specs.Ports.{port_of}
 
 same : {A : Type 0} (x y : A) → Some x ≡ Some y → x ≡ y
 same x y e = cc
@@ -46,6 +43,10 @@ all_had (x ∷ xs) = All-cons (Has (x ∷ xs)) x xs (inl refl) (All-weaker (Has 
 has : {X : Type 0} (xs : List X) (x : X) → Contains xs x → Has xs x
 has xs x h = All-contains (Has xs) xs x (all_had xs) h
 
+pub none_contained : {X P : Type 0} (x : X) → Contains [] x → P
+unfolding Has
+none_contained x h = absurd (has [] x h)
+
 contains : {X : Type 0} (xs : List X) (x : X) → Has xs x → Contains xs x
 unfolding Has
 contains [] x h = absurd h
@@ -74,14 +75,14 @@ has_made f (z ∷ zs) x y is (inr h) =
     ]
 
 -- what a place says of its workload
-record Placed (e : List ℕ × Workload) (healthy : Bool) (ip : Option Ip) (number : Option ℕ) (p : Place) : Type 0 where
-  name : e.0 ≡ p.name
-  healthy_is : healthy ≡ true
-  ip_is : ip ≡ Some p.target.ip
-  number_is : number ≡ Some p.target.port
-  protocol : e.1.hbone ≡ p.hbone
+pub record Placed (e : List ℕ × Workload) (healthy : Bool) (ip : Option Ip) (number : Option ℕ) (p : Place) : Type 0 where
+  pub name : e.0 ≡ p.name
+  pub healthy_is : healthy ≡ true
+  pub ip_is : ip ≡ Some p.target.ip
+  pub number_is : number ≡ Some p.target.port
+  pub protocol : e.1.hbone ≡ p.hbone
 
-placed : (e : List ℕ × Workload) (healthy : Bool) (ip : Option Ip) (number : Option ℕ) (p : Place)
+pub placed : (e : List ℕ × Workload) (healthy : Bool) (ip : Option Ip) (number : Option ℕ) (p : Place)
     → cond healthy (place_at e ip number) None ≡ Some p → Placed e healthy ip number p
 placed e false ip number p is = no_value p is
 placed e true None number p is = no_value p is
@@ -96,22 +97,32 @@ placed e true (Some ip) (Some number) p is =
       protocol = ap (λ (q : Place). q.hbone) it;
     }
 
-module _ (h : Resources) (s : Service) (port : Port) where
+-- a healthy workload with an address and a port is a place
+pub place_there : (l : Leading) (p : Place) (w : Workload) (ip : Option Ip) → w.healthy ≡ true → ip ≡ Some p.target.ip
+    → port_by l w ≡ Some p.target.port → w.hbone ≡ p.hbone → place_with l ip (p.name, w) ≡ Some p
+place_there l p w ip healthy address leads protocol =
+    let e : List ℕ × Workload = (p.name, w) in
+    ap (λ b. cond b (place_at e ip (port_by l w)) None) healthy
+    ∙ ap (λ a. place_at e a (port_by l w)) address
+    ∙ ap (place_at e (Some p.target.ip)) leads
+    ∙ ap (λ b. Some (record { name = p.name; target = p.target; hbone = b })) protocol
+
+module _ (h : Resources) (namespace hostname : List ℕ) (l : Leading) where
   abbrev serving : List ℕ × Workload → Bool
-  serving e = serves h.network s.namespace s.hostname e.1
+  serving e = serves h.network namespace hostname e.1
 
   abbrev Listed : List ℕ × Workload → Type 0
   Listed e = Contains (workloads h) e × (serving e ≡ true)
 
-  listed : All Listed (endpoints h s.namespace s.hostname)
+  listed : All Listed (endpoints h namespace hostname)
   listed = λ k d within. (
     All-filter serving (Contains (workloads h)) (workloads h) (All-contains_itself (workloads h)) k d within,
     filter_passes serving (workloads h) k d within,
   )
 
-  serves_there : (e : List ℕ × Workload) (p : Place) → Listed e → place_of s port e ≡ Some p → Serves h s port p
+  serves_there : (e : List ℕ × Workload) (p : Place) → Listed e → place_by l e ≡ Some p → Serves h namespace hostname l p
   serves_there e p at is =
-      let it = placed e e.1.healthy (slice_get e.1.addresses 0) (port_of e.1 s port) p is in
+      let it = placed e e.1.healthy (slice_get e.1.addresses 0) (port_by l e.1) p is in
       record {
         workload = e.1;
         held = subst (λ n. Contains (workloads h) (n, e.1)) it.name at.0;
@@ -122,22 +133,18 @@ module _ (h : Resources) (s : Service) (port : Port) where
         protocol = it.protocol;
       }
 
-  place_is : (p : Place) (at : Serves h s port p) → place_of s port (p.name, at.workload) ≡ Some p
+  place_is : (p : Place) (at : Serves h namespace hostname l p) → place_by l (p.name, at.workload) ≡ Some p
   place_is p at =
-      let e : List ℕ × Workload = (p.name, at.workload) in
-      ap (λ b. cond b (place_at e (slice_get at.workload.addresses 0) (port_of at.workload s port)) None) at.healthy
-      ∙ ap (λ ip. place_at e ip (port_of at.workload s port)) at.address
-      ∙ ap (place_at e (Some p.target.ip)) at.leads
-      ∙ ap (λ b. Some (record { name = p.name; target = p.target; hbone = b })) at.protocol
+      place_there l p at.workload (slice_get at.workload.addresses 0) at.healthy at.address at.leads at.protocol
 
 pub places_serve : PlacesServe
-places_serve h s port =
-    all_made (place_of s port) (Listed h s port) (Serves h s port) (serves_there h s port) (endpoints h s.namespace s.hostname)
-    (listed h s port)
+places_serve h namespace hostname l =
+    all_made (place_by l) (Listed h namespace hostname l) (Serves h namespace hostname l) (serves_there h namespace hostname l)
+    (endpoints h namespace hostname) (listed h namespace hostname l)
 
 pub none_missed : NoPlaceIsMissed
-none_missed h s port p at =
+none_missed h namespace hostname l p at =
     let e : List ℕ × Workload = (p.name, at.workload) in
-    contains (places h s port) p
-    (has_made (place_of s port) (endpoints h s.namespace s.hostname) e p (place_is h s port p at)
-    (has_filter (serving h s port) (workloads h) e at.serving (has (workloads h) e at.held)))
+    contains (places_by l (endpoints h namespace hostname)) p
+    (has_made (place_by l) (endpoints h namespace hostname) e p (place_is h namespace hostname l p at)
+    (has_filter (serving h namespace hostname l) (workloads h) e at.serving (has (workloads h) e at.held)))

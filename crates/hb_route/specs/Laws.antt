@@ -5,27 +5,23 @@ use Rattle.std.specs.FinMap.{empty, insert, from_sorted}
 use Rattle.std.specs.List.{All, Contains, best_of}
 use Rattle.std.specs.Ordering.{nat_cmp, is_lt}
 use Rattle.std.specs.Str.{bytes_eq}
-use Rattle.hb_base.specs.declared.ip.Ip.{Ip}
 use Rattle.hb_base.specs.declared.ip.Ip.TheVariants.{V4}
 use Rattle.hb_base.specs.declared.target.Target.{Target}
-use Rattle.hb_held.specs.Endpoints.{serves}
+use Rattle.hb_held.specs.Endpoints.{serves, endpoints}
 use Rattle.hb_held.specs.Held.{Resources, no_doors, nothing_held}
 use Rattle.hb_held.specs.Lookup.{workloads}
 use Rattle.hb_records.specs.declared.address.AddressRecord.{AddressRecord}
 use Rattle.hb_records.specs.declared.address.AddressRecord.TheVariants as records
-use Rattle.hb_records.specs.declared.gateway.GatewayAddress.{GatewayAddress}
-use Rattle.hb_records.specs.declared.gateway.Waypoint.TheVariants.{Hostname}
 use Rattle.hb_records.specs.declared.port.Port.{Port}
 use Rattle.hb_records.specs.declared.service.Service.{Service}
 use Rattle.hb_records.specs.declared.workload.Workload.{Workload}
 use Rattle.hb_records.specs.Service.{no_service}
 use Rattle.hb_records.specs.Workload.{no_workload}
 use Rattle.hb_route.specs.Answer.{Way, by_gateway, straight, no_way}
-use Rattle.hb_route.specs.Endpoint.{Place, places}
+use Rattle.hb_route.specs.Endpoint.{Place, Leading, port_by, places_by}
 use Rattle.hb_route.specs.Opens.{Counts, open_at}
-use Rattle.hb_route.specs.Ports.{port_of}
 use Rattle.hb_route.specs.Routing.{way}
-use Rattle.hb_route.specs.declared.answer.NoRoute.TheVariants.{UnknownSource, NoEndpoint, NoPort, NeedsWaypoint}
+use Rattle.hb_route.specs.declared.answer.NoRoute.TheVariants.{UnknownSource, NoEndpoint, NoPort}
 
 -- a change of the numbers steps the one of a name, and no other
 abbrev pub Steps : (Counts → List ℕ → Counts) → (ℕ → ℕ) → Type 0
@@ -66,29 +62,26 @@ smallest_name opens (p ∷ ps) = Some (best_of (λ a b. is_lt (slice_cmp nat_cmp
 abbrev pub no_choice : Counts → List Place → Option Place
 no_choice opens ps = None
 
--- under this name a workload is held that serves the service, is healthy, has this first address, and leads its port to this one
-pub record Serves (h : Resources) (s : Service) (port : Port) (p : Place) : Type 0 where
+-- under this name a workload is held that serves the hostname, is healthy, has this first address, and has this port
+pub record Serves (h : Resources) (namespace hostname : List ℕ) (l : Leading) (p : Place) : Type 0 where
   pub workload : Workload
   pub held : Contains (workloads h) (p.name, workload)
-  pub serving : serves h.network s.namespace s.hostname workload ≡ true
+  pub serving : serves h.network namespace hostname workload ≡ true
   pub healthy : workload.healthy ≡ true
   pub address : slice_get workload.addresses 0 ≡ Some p.target.ip
-  pub leads : port_of workload s port ≡ Some p.target.port
+  pub leads : port_by l workload ≡ Some p.target.port
   pub protocol : workload.hbone ≡ p.hbone
 
--- the places of a port of a service are those that serve it, and no others
+-- the places of a hostname are those that serve it, and no others
 abbrev pub PlacesServe : Type 0
-PlacesServe = (h : Resources) (s : Service) (port : Port) → All (Serves h s port) (places h s port)
+PlacesServe =
+    (h : Resources) (namespace hostname : List ℕ) (l : Leading)
+    → All (Serves h namespace hostname l) (places_by l (endpoints h namespace hostname))
 
 abbrev pub NoPlaceIsMissed : Type 0
-NoPlaceIsMissed = (h : Resources) (s : Service) (port : Port) (p : Place) → Serves h s port p → Contains (places h s port) p
-
--- a gateway has the address of the authority that it is asked for, and the port of gateways
-abbrev pub GatewaysAreNextToTheirTargets : Type 0
-GatewaysAreNextToTheirTargets =
-    (h : Resources) (opens : Counts) (source : Ip) (destination : Target) (hbone_port : ℕ) (gateway authority : Target) (name : List ℕ)
-    → way h opens source destination hbone_port ≡ by_gateway gateway authority name
-    → (gateway.ip ≡ authority.ip) × (gateway.port ≡ hbone_port)
+NoPlaceIsMissed =
+    (h : Resources) (namespace hostname : List ℕ) (l : Leading) (p : Place) → Serves h namespace hostname l p
+    → Contains (places_by l (endpoints h namespace hostname)) p
 
 -- small meshes: workloads u1 at 10.0.0.7 and u2 at 10.0.0.8; a source w9 at 10.0.0.9; a service a/web.a at 10.1.0.1
 abbrev pub port : ℕ → ℕ → Port
@@ -118,9 +111,6 @@ web =
 
 abbrev pub w9 : Workload
 w9 = record (workload 167772169) { node = codes "n1" }
-
-abbrev pub waypoint : Option GatewayAddress
-waypoint = Some (record { to = Hostname (codes "a") (codes "waypoint.a"); hbone_mtls_port = 15008 })
 
 -- a node n1 of the network net that holds these records
 abbrev pub holding : List (List ℕ × AddressRecord) → Resources
@@ -158,12 +148,9 @@ sick w = record w { healthy = false }
 abbrev pub plain : Workload → Workload
 plain w = record w { hbone = false }
 
--- the same service with port 81 alone, which no workload's entry has; and behind a waypoint
+-- the same service with port 81 alone, which no workload's entry has
 abbrev pub unled : Service
 unled = record web { ports = port 81 8080 ∷ [] }
-
-abbrev pub guarded : Service
-guarded = record web { waypoint = waypoint }
 
 -- to the service on port 80
 abbrev pub ToWeb : Workload → Workload → ℕ → ℕ → Way → Type 0
@@ -186,15 +173,12 @@ SickIsPassedOver = ToWeb (sick u1) u2 0 5 by_u2
 abbrev pub NoneIsHealthy : Type 0
 NoneIsHealthy = ToWeb (sick u1) (sick u2) 0 0 (no_way NoEndpoint)
 
--- a port that the service hasn't; a port that the workloads' entries haven't; a waypoint; a source that isn't of this node
+-- a port that the service hasn't; a port that the workloads' entries haven't; a source that isn't of this node
 abbrev pub OtherPortIsRefused : Type 0
 OtherPortIsRefused = Goes (mesh u1 u2 web) (opened 0 0) 167837697 81 (no_way NoPort)
 
 abbrev pub UnledPortIsRefused : Type 0
 UnledPortIsRefused = Goes (mesh u1 u2 unled) (opened 0 0) 167837697 81 (no_way NoEndpoint)
-
-abbrev pub WaypointIsNeeded : Type 0
-WaypointIsNeeded = Goes (mesh u1 u2 guarded) (opened 0 0) 167837697 80 (no_way NeedsWaypoint)
 
 abbrev pub StrangerIsRefused : Type 0
 StrangerIsRefused = way (mesh u1 u2 web) (opened 0 0) (V4 167772168) (to 167837697 80) 15008 ≡ no_way UnknownSource
@@ -211,7 +195,7 @@ abbrev pub ElsewhereGoesStraight : Type 0
 ElsewhereGoesStraight = Goes (mesh u1 u2 web) (opened 0 0) 134744072 53 (straight (to 134744072 53) None)
 
 -- wrong ways: to an endpoint that has more open; to one that isn't healthy; straight where a gateway is due; to the service's own
--- port in place of the target port; to a port that no entry has; past a waypoint
+-- port in place of the target port; to a port that no entry has
 abbrev pub BusierGoesFirst : Type 0
 BusierGoesFirst = ToWeb u1 u2 1 0 by_u1
 
@@ -226,6 +210,3 @@ ServicePortIsReached = ToWeb u1 u2 1 0 (by_gateway (to 167772168 15008) (to 1677
 
 abbrev pub UnledPortIsReached : Type 0
 UnledPortIsReached = Goes (mesh u1 u2 unled) (opened 0 0) 167837697 81 by_u1
-
-abbrev pub WaypointIsPassedBy : Type 0
-WaypointIsPassedBy = Goes (mesh u1 u2 guarded) (opened 0 0) 167837697 80 by_u1

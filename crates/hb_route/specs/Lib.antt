@@ -4,3 +4,5 @@ pub mod Laws
 pub mod Opens
 pub mod Ports
 pub mod Routing
+pub mod Waypoint
+pub mod WaypointLaws

@@ -4,6 +4,7 @@ use Rattle.hb_base.specs.declared.ip.Ip.{Ip}
 use Rattle.hb_base.specs.declared.target.Target.{Target}
 use Rattle.hb_held.specs.Held.{Resources}
 use Rattle.hb_held.specs.Lookup.{known, service_at, workload_at}
+use Rattle.hb_records.specs.declared.gateway.GatewayAddress.{GatewayAddress}
 use Rattle.hb_records.specs.declared.port.Port.{Port}
 use Rattle.hb_records.specs.declared.service.Service.{Service}
 use Rattle.hb_records.specs.declared.workload.Workload.{Workload}
@@ -11,7 +12,8 @@ use Rattle.hb_route.specs.Answer.{Way, by_gateway, straight, no_way}
 use Rattle.hb_route.specs.Endpoint.{Place, places, chosen}
 use Rattle.hb_route.specs.Opens.{Counts}
 use Rattle.hb_route.specs.Ports.{port_at}
-use Rattle.hb_route.specs.declared.answer.NoRoute.TheVariants.{UnknownSource, NoEndpoint, NoPort, NeedsWaypoint}
+use Rattle.hb_route.specs.Waypoint.{to_waypoint}
+use Rattle.hb_route.specs.declared.answer.NoRoute.TheVariants.{UnknownSource, NoEndpoint, NoPort}
 
 -- to a workload that takes HBONE by the gateway on its own address, else straight
 abbrev pub to_place : ℕ → Place → Way
@@ -29,26 +31,26 @@ abbrev pub to_port : Resources → Counts → Service → ℕ → Option Port �
 to_port h opens s hbone_port None = no_way NoPort
 to_port h opens s hbone_port (Some port) = to_chosen hbone_port (chosen opens (places h s port))
 
--- to a service, unless its connections go through a waypoint first
-abbrev pub to_service : Resources → Counts → Service → ℕ → ℕ → Way
-to_service h opens s number hbone_port =
-    if is_some s.waypoint then no_way NeedsWaypoint else to_port h opens s hbone_port (port_at s.ports number)
+-- to a service: through the waypoint that stands in front of it, else to a port of it
+abbrev pub to_service : Resources → Counts → Service → Option GatewayAddress → Target → ℕ → Way
+to_service h opens s (Some g) destination hbone_port = to_waypoint h opens g destination hbone_port
+to_service h opens s None destination hbone_port = to_port h opens s hbone_port (port_at s.ports destination.port)
 
--- to a workload itself, unless its connections go through a waypoint first; whether it is healthy isn't asked
-abbrev pub to_workload : List ℕ × Workload → Target → ℕ → Way
-to_workload e destination hbone_port =
-    if is_some e.1.waypoint then no_way NeedsWaypoint
-    else to_place hbone_port (record { name = e.0; target = destination; hbone = e.1.hbone })
+-- to a workload itself: through the waypoint that stands in front of it, else to the address; whether it is healthy isn't asked
+abbrev pub to_workload : Resources → Counts → List ℕ × Workload → Option GatewayAddress → Target → ℕ → Way
+to_workload h opens e (Some g) destination hbone_port = to_waypoint h opens g destination hbone_port
+to_workload h opens e None destination hbone_port =
+    to_place hbone_port (record { name = e.0; target = destination; hbone = e.1.hbone })
 
 -- to an address that no service has: to the workload that has it, else straight
-abbrev pub to_address : Option (List ℕ × Workload) → Target → ℕ → Way
-to_address None destination hbone_port = straight destination None
-to_address (Some e) destination hbone_port = to_workload e destination hbone_port
+abbrev pub to_address : Resources → Counts → Option (List ℕ × Workload) → Target → ℕ → Way
+to_address h opens None destination hbone_port = straight destination None
+to_address h opens (Some e) destination hbone_port = to_workload h opens e e.1.waypoint destination hbone_port
 
 -- to an address: to the service that has it, else to the address itself
 abbrev pub to_destination : Resources → Counts → Option (List ℕ × Service) → Target → ℕ → Way
-to_destination h opens (Some e) destination hbone_port = to_service h opens e.1 destination.port hbone_port
-to_destination h opens None destination hbone_port = to_address (workload_at h destination.ip) destination hbone_port
+to_destination h opens (Some e) destination hbone_port = to_service h opens e.1 e.1.waypoint destination hbone_port
+to_destination h opens None destination hbone_port = to_address h opens (workload_at h destination.ip) destination hbone_port
 
 -- The way from a source to a destination: only a workload of this node is a source.
 abbrev pub way : Resources → Counts → Ip → Target → ℕ → Way

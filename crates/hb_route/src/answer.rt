@@ -1,7 +1,7 @@
 //! The way of a connection, or why it has none.
 
 ghost use Rattle.std.specs.Prelude.{◌≡◌};
-ghost use Rattle.hb_route.specs.Answer.{number_of};
+ghost use Rattle.hb_route.specs.Answer.{number_of, text_of};
 
 use hb_base::{Target, Text};
 
@@ -14,12 +14,16 @@ pub enum NoRoute {
     NoEndpoint,
     /// The service has no such port.
     NoPort,
-    /// Connections to its destination go through a waypoint first.
-    NeedsWaypoint,
+    /// Its destination's waypoint is an address of another network.
+    OtherNetwork,
+    /// No workload is held by its destination's waypoint.
+    UnknownWaypoint,
+    /// None of the waypoint's workloads is healthy and has an address and a port of TCP.
+    NoWaypointEndpoint,
 }
 
 impl NoRoute {
-    /// The number by which a cause names it, from 1 to 4.
+    /// The number by which a cause names it, from 1 to 7; none is 4.
     pub fn number(self) -> u32
         ensures { result ≡ number_of self }
     {
@@ -27,7 +31,23 @@ impl NoRoute {
             NoRoute::UnknownSource => 1,
             NoRoute::NoEndpoint => 2,
             NoRoute::NoPort => 3,
-            NoRoute::NeedsWaypoint => 4,
+            NoRoute::OtherNetwork => 5,
+            NoRoute::UnknownWaypoint => 6,
+            NoRoute::NoWaypointEndpoint => 7,
+        }
+    }
+
+    /// The same in words.
+    pub fn text(self) -> &'static str
+        ensures { result.now ≡ text_of self }
+    {
+        match self {
+            NoRoute::UnknownSource => "unknown source",
+            NoRoute::NoEndpoint => "no healthy endpoint",
+            NoRoute::NoPort => "no such port of the service",
+            NoRoute::OtherNetwork => "waypoint of another network",
+            NoRoute::UnknownWaypoint => "unknown waypoint",
+            NoRoute::NoWaypointEndpoint => "no healthy endpoint of the waypoint",
         }
     }
 }
@@ -36,7 +56,7 @@ impl NoRoute {
 #[derive(Drop)]
 pub enum Route<'a> {
     /// By a CONNECT for `authority` on a connection to the gateway at `address` (RFC 9113 section 8.5). `endpoint` is the name of
-    /// the workload's resource.
+    /// the resource of the workload at the gateway: that of the authority, or one of a waypoint in front of it.
     Gateway {
         address: Target,
         authority: Target,

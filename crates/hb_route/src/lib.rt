@@ -1,5 +1,5 @@
-//! Which way a captured connection takes: through a gateway that takes HBONE, or straight to an address; and how many connections
-//! each endpoint has open, by which one of several is chosen.
+//! Which way a captured connection takes: through a gateway that takes HBONE, that of its target or of a waypoint in front of it, or
+//! straight to an address; and how many connections each endpoint has open, by which one of several is chosen.
 #![tactic(auto)]
 
 mod answer;
@@ -8,6 +8,7 @@ pub mod laws;
 mod opens;
 mod ports;
 mod routing;
+mod waypoint;
 
 pub use answer::{NoRoute, Route};
 pub use opens::Opens;

@@ -5,12 +5,14 @@ ghost use Rattle.std.specs.Option.{option_map};
 ghost use Rattle.hb_held.specs.Lookup.{found_as};
 ghost use Rattle.hb_route.specs.Answer.{way_as};
 ghost use Rattle.hb_route.specs.Endpoint.{place_as};
-ghost use Rattle.hb_route.specs.Routing.{to_place, to_service, to_workload, to_address, way};
+ghost use Rattle.hb_route.specs.Ports.{port_at};
+ghost use Rattle.hb_route.specs.Routing.{to_place, to_port, to_service, to_workload, way};
 
 use crate::answer::{NoRoute, Route};
-use crate::endpoint::{Endpoint, chosen};
+use crate::endpoint::{Endpoint, ToPort, chosen};
 use crate::opens::Opens;
 use crate::ports::port_at;
+use crate::waypoint::to_waypoint;
 use hb_base::{Ip, Target};
 use hb_held::{Found, Held};
 use hb_records::Service;
@@ -37,45 +39,68 @@ fn to_endpoint(endpoint: Endpoint<'_>, hbone_port: u16) -> Route<'_>
 }
 
 /// The way to a port of a service.
-fn to_service<'a>(
+fn to_port<'a>(
     held: &'a Held,
     opens: &Opens,
     service: &'a Service,
     number: u16,
     hbone_port: u16,
 ) -> Route<'a>
-    ensures { way_as result ≡ to_service held.now opens.now service.now number hbone_port }
+    ensures { way_as result ≡ to_port held.now opens.now service.now hbone_port (port_at service.now.ports number) }
 {
-    if service.waypoint.is_some() {
-        return Route::Refused(NoRoute::NeedsWaypoint);
-    }
     let Some(port) = port_at(&service.ports, u32::from(number)) else {
         return Route::Refused(NoRoute::NoPort);
     };
-    match chosen(held, opens, service, port) {
+    let to = ToPort::OfService(service, port);
+    match chosen(held, opens, &service.namespace, &service.hostname, to) {
         Some(endpoint) => to_endpoint(endpoint, hbone_port),
         None => Route::Refused(NoRoute::NoEndpoint),
     }
 }
 
-/// The way to a workload itself.
-fn to_workload<'a>(found: Found<'a>, destination: Target, hbone_port: u16) -> Route<'a>
-    ensures { way_as result ≡ to_workload (found_as found.entry) destination hbone_port }
+/// The way to a service, through its waypoint where it has one.
+fn to_service<'a>(
+    held: &'a Held,
+    opens: &Opens,
+    service: &'a Service,
+    destination: Target,
+    hbone_port: u16,
+) -> Route<'a>
+    ensures { way_as result ≡ to_service held.now opens.now service.now service.now.waypoint destination hbone_port }
 {
-    if found.workload.waypoint.is_some() {
-        return Route::Refused(NoRoute::NeedsWaypoint);
+    match &service.waypoint {
+        Some(waypoint) => to_waypoint(held, opens, waypoint, destination, hbone_port),
+        None => to_port(held, opens, service, destination.port, hbone_port),
     }
-    let endpoint = Endpoint {
-        name: found.name,
-        target: destination,
-        hbone: found.workload.hbone,
-    };
-    to_endpoint(endpoint, hbone_port)
+}
+
+/// The way to a workload itself, through its waypoint where it has one.
+fn to_workload<'a>(
+    held: &'a Held,
+    opens: &Opens,
+    found: Found<'a>,
+    destination: Target,
+    hbone_port: u16,
+) -> Route<'a>
+    ensures { way_as result ≡ to_workload held.now opens.now (found_as found.entry) found.entry.workload.now.waypoint destination hbone_port }
+{
+    match &found.workload.waypoint {
+        Some(waypoint) => to_waypoint(held, opens, waypoint, destination, hbone_port),
+        None => to_endpoint(
+            Endpoint {
+                name: found.name,
+                target: destination,
+                hbone: found.workload.hbone,
+            },
+            hbone_port,
+        ),
+    }
 }
 
 /// The way that a connection from `source` to `destination` takes, by the resources held and by how many connections each endpoint
 /// has open. The first of these that applies: the source is no workload of this node; a service has the destination's address; a
-/// workload has it; else straight to the destination. Takes no memory.
+/// workload has it; else straight to the destination. Where a waypoint stands in front of that service or workload, the way goes
+/// through one of the waypoint's workloads, and never past them. Takes no memory.
 pub fn route<'a>(
     held: &'a Held,
     opens: &Opens,
@@ -89,10 +114,10 @@ pub fn route<'a>(
         return Route::Refused(NoRoute::UnknownSource);
     }
     if let Some(found) = held.service_at(destination.ip) {
-        return to_service(held, opens, found.service, destination.port, hbone_port);
+        return to_service(held, opens, found.service, destination, hbone_port);
     }
     match held.workload_at(destination.ip) {
-        Some(found) => to_workload(found, destination, hbone_port),
+        Some(found) => to_workload(held, opens, found, destination, hbone_port),
         None => Route::Direct {
             address: destination,
             endpoint: None,

@@ -1,5 +1,5 @@
 use Rattle.hb_route.proofs.Meshes.{fewer, smaller_name, plain_straight, sick_passed_over, none_healthy, other_port, unled_port}
-use Rattle.hb_route.proofs.Meshes.{waypoint_needed, stranger, workload_reached, plain_workload, elsewhere}
+use Rattle.hb_route.proofs.Meshes.{stranger, workload_reached, plain_workload, elsewhere}
 use Rattle.hb_route.proofs.laws.small_meshes_have_their_ways.Goals as goal
 
 pub returns : goal.returns
@@ -12,7 +12,6 @@ returns c =
       none_healthy = none_healthy;
       port = other_port;
       entry = unled_port;
-      waypoint = waypoint_needed;
       source = stranger;
       workload = workload_reached;
       plain_workload = plain_workload;

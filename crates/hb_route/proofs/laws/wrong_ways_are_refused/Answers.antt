@@ -1,4 +1,4 @@
-use Rattle.hb_route.proofs.Meshes.{busier, sick_reached, gateway_passed_by, service_port, unled_reached, waypoint_passed_by}
+use Rattle.hb_route.proofs.Meshes.{busier, sick_reached, gateway_passed_by, service_port, unled_reached}
 use Rattle.hb_route.proofs.laws.wrong_ways_are_refused.Goals as goal
 
 pub returns : goal.returns
@@ -9,5 +9,4 @@ returns c =
       straight = gateway_passed_by;
       port = service_port;
       entry = unled_reached;
-      waypoint = waypoint_passed_by;
     }
