@@ -10,7 +10,7 @@ routes.py beside this one, a second evaluator, tells each way.
 import random
 import textwrap
 
-from routes import WAYPOINT_ADDRESS, WAYPOINT_NAME, ip_of, service, spelled, way, workload
+from routes import by_address, by_hostname, ip_of, service, spelled, way, workload
 
 CHOICE = random.Random(1508)
 
@@ -40,7 +40,7 @@ def record(r):
 
 
 def row(resources, destination="10.1.0.1", port=80, opens="", source="10.0.0.9", hbone_port=15008):
-    answer = way(resources, counted(opens), source, destination, port, hbone_port)
+    answer = " ".join("-" if word is None else str(word) for word in way(resources, counted(opens), source, destination, port, hbone_port))
     held = " ".join(f"{name}={record(r)}" for name, r in resources.items())
     ends = f"{ip_of(source)} {ip_of(destination)} {port} {hbone_port}"
     return f"{held}; {opens}; {ends}; {answer}"
@@ -97,12 +97,83 @@ def refused_rows():
     yield "# no endpoint: none there, without an address, of another network, of no network"
     yield from (row(mesh()), row(mesh(workload(serves=TO_WEB))), row(mesh(workload(serves=TO_WEB), U2)))
     yield from (row(mesh(end("10.0.0.7", net=net), x)) for net in ("other", "") for x in (None, U2))
-    yield "# a waypoint: of the service, also without the port; of the workload; a source that isn't known goes first"
-    for waypoint in (WAYPOINT_NAME, WAYPOINT_ADDRESS):
-        web = service("10.1.0.1", waypoint=waypoint)
-        yield from (row(mesh(U1, web=web)), row(mesh(U1, web=web), port=81), row(mesh(U1, web=web), source="10.0.0.66"))
-        yield from (row(mesh(workload("10.0.0.7", waypoint=waypoint)), "10.0.0.7"), row(mesh(end("10.0.0.7", waypoint=waypoint))))
-        yield row(mesh(workload("10.0.0.7", waypoint=waypoint)), "10.0.0.7", source="10.0.0.66")
+
+
+# Waypoints: workloads p1, p2 .. of a service a/way.a at 10.1.0.2, and a/web.a with its endpoint u1 behind it.
+
+WAY = by_hostname("way.a")
+WAY_SERVICE = service("10.1.0.2", host="way.a", ports=())
+
+
+def pod(*ips, key="a/way.a", **more):
+    return workload(*ips, serves=[(key, ())], **more)
+
+
+P1, P2 = pod("10.0.0.17"), pod("10.0.0.18")
+
+
+def behind(waypoint, *pods, u1=U1, **named):
+    """The service behind a waypoint that has these workloads."""
+    pods = {f"p{i}": r for i, r in enumerate(pods, 1)}
+    return mesh(u1, **{"web": service("10.1.0.1", waypoint=waypoint), "way": WAY_SERVICE, **pods, **named})
+
+
+def waypoint_rows():
+    two = behind(WAY, P1, P2)
+    yield "# a waypoint by its hostname: fewer open first, and then the smaller name; its port, or that of all gateways"
+    yield from (row(two, opens=opens) for opens in ("", "p1", "p1 p2", "p2", "p1 p1 p2", "p1 p2 ~p1", "u1 u1 way web", "p1 p1 ~p1 p2 p2"))
+    yield from (row(behind(by_hostname("way.a", port=port), P1, P2), opens="p1", hbone_port=all_ports)
+                for port in (0, 15009, 1) for all_ports in (15008, 16000, 0))
+    yield from (row(behind(by_hostname("way.a", port=port), P1)) for port in (65535, 65536, 70000, 2**32 - 1))
+    yield "# whatever the port that is asked for, and the service's endpoints"
+    yield from (row(two, port=port) for port in (81, 0, 65535))
+    yield from (row(behind(WAY, P1, u1=u1)) for u1 in (None, SICK1, PLAIN1, end("10.0.0.7", [(80, 65536)])))
+    yield "# its workloads: sick ones, without an address, of another network, without HBONE, of several addresses, of IPv6"
+    sick, bare = pod("10.0.0.17", status=1), pod()
+    yield from (row(behind(WAY, sick, P2)), row(behind(WAY, sick, P2), opens="p2 p2"), row(behind(WAY, sick)), row(behind(WAY, bare)))
+    yield from (row(behind(WAY, bare, sick)), row(behind(WAY, bare, P2)), row(behind(WAY, pod("10.0.0.17", status=2))), row(behind(WAY)))
+    yield from (row(behind(WAY, pod("10.0.0.17", net=net), *more)) for net in ("other", "") for more in ([], [P2]))
+    yield from (row(behind(WAY, pod(*ips))) for ips in (("10.0.0.17", "10.0.0.6"), ("10.0.0.6", "10.0.0.17"), ("2001:db8::17",)))
+    yield from (row(behind(WAY, pod("::ffff:10.0.0.17"))), row(behind(WAY, pod("10.0.0.17", hbone=0))))
+    yield row(behind(WAY, workload("10.0.0.17", serves=[("a/db.a", [(80, 1)]), ("a/way.a", [(15008, 15009)])])))
+    yield "# hostnames that nobody has, or others have; hostnames whose service isn't there; parts of no octets"
+    yield from (row(behind(by_hostname(host), P1)) for host in ("way", "way.aa", "WAY.a", "", "a/way.a"))
+    yield from (row(behind(by_hostname("way.a", ns=ns), P1)) for ns in ("b", "", "A"))
+    yield from (row(behind(WAY, P1, way=None)), row(behind(by_hostname("", ns=""), P1, x=pod("10.0.0.20", key="/"))))
+    yield from (row(behind(WAY, pod("10.0.0.17", key=key))) for key in ("a/way", "way.a", "b/way.a"))
+    yield row(behind(by_hostname("b/way", ns="a"), pod("10.0.0.17", key="a/b/way")))
+    yield "# a waypoint by an address that a service has; of another network; one of no workloads, or of sick ones"
+    at = by_address("10.1.0.2")
+    yield from (row(behind(at, P1, P2), opens=opens) for opens in ("", "p1", "p1 p2"))
+    yield from (row(behind(by_address("10.1.0.2", port=port), P1, P2)) for port in (15009, 65536))
+    yield from (row(behind(by_address("10.1.0.2", net=net), P1)) for net in ("other", "", "NET"))
+    yield from (row(behind(at)), row(behind(at, sick)), row(behind(at, bare)), row(behind(at, P1, way=service(("other", "10.1.0.2"), host="way.a"))))
+    yield from (row(behind(at, P1, way=service("10.1.0.3", "10.1.0.2", host="way.a"))), row(behind(by_address("::ffff:10.1.0.2"), P1)))
+    yield from (row(behind(at, P1, **{name: service("10.1.0.2", host="db.a")})) for name in ("v", "x"))
+    yield from (row(behind(at, P1, x=workload("10.1.0.2"))), row(behind(at, x=workload("10.1.0.2"))))
+    yield "# a waypoint by an address that a workload has, at that address; the smaller name; sick ones; one that nobody has"
+    at = by_address("10.0.0.17")
+    yield from (row(behind(at, P1, P2)), row(behind(at, P1, P2), opens="p1"), row(behind(at, workload("10.0.0.17"))))
+    yield from (row(behind(by_address("10.0.0.17", port=port), P1)) for port in (15009, 70000))
+    yield from (row(behind(at, r)) for r in (sick, pod("10.0.0.6", "10.0.0.17"), pod("10.0.0.17", hbone=0), pod("10.0.0.17", net="other")))
+    yield from (row(behind(at, one, other)) for one, other in ((P1, sick), (sick, P1), (pod("10.0.0.17", net="other"), P1)))
+    yield from (row(behind(by_address("10.0.0.19"), P1)), row(behind(by_address("10.0.0.17", net="other"), P1)))
+    yield from (row(behind(by_address(ip), pod("2001:db8::17"))) for ip in ("2001:db8::17", "2001:db8::18"))
+    yield "# of a workload: its own waypoint; not that of its service, whose connections don't ask for the workload's"
+    for waypoint in (WAY, at, by_address("10.0.0.19"), by_address("10.0.0.17", net="other")):
+        own = end("10.0.0.7", waypoint=waypoint)
+        yield from (row(behind(None, P1, u1=own), "10.0.0.7", 53), row(behind(None, P1, u1=own)), row(behind(WAY, P1, u1=own), "10.0.0.7"))
+        yield row(behind(waypoint, P1), "10.0.0.7")
+    yield from (row(behind(None, P1, u1=workload("10.0.0.7", waypoint=WAY, **more)), "10.0.0.7") for more in ({"hbone": 0}, {"status": 1}))
+    yield row(behind(WAY, P1, u1=workload("10.1.0.1", waypoint=by_hostname("no.a"))))
+    yield "# a source that isn't known goes first; a source that is the waypoint; a waypoint behind another; one in front of itself"
+    yield from (row(behind(waypoint, P1), source="10.0.0.66") for waypoint in (WAY, by_hostname("no.a")))
+    yield row(behind(WAY, pod("10.0.0.17", node=NODE)), source="10.0.0.17")
+    yield row(behind(WAY, pod("10.0.0.17", waypoint=by_hostname("no.a")), way=service("10.1.0.2", host="way.a", waypoint=by_hostname("no.a"))))
+    yield from (row(behind(None, pod("10.0.0.17", waypoint=by_address("10.0.0.17"))), "10.0.0.17", port) for port in (80, 15008))
+    yield row(behind(None, P1, way=service("10.1.0.2", host="way.a", waypoint=WAY)), "10.1.0.2", 15008)
+    six = behind(WAY, pod("2001:db8::17"), web=service("2001:db8::1", waypoint=WAY), x=workload("2001:db8::9", node=NODE))
+    yield from (row(six, "2001:db8::1", source="2001:db8::9"), row(six, "2001:db8::1"))
 
 
 def port_rows():
@@ -186,6 +257,28 @@ def chance_rows():
         yield row(resources, destination, CHOICE.choice((80, 80, 80, 81)), opens)
 
 
+def waypoints_by_chance():
+    """Small meshes of which most have a waypoint."""
+    yield "# meshes with waypoints by chance"
+    for _ in range(40):
+        def drawn():
+            net, key = CHOICE.choice(("net",) * 5 + ("other",)), CHOICE.choice(("a/way.a", "a/way.a", "a/web.a", "a/no.a"))
+            ips = [f"10.0.0.{CHOICE.randint(1, 5)}" for _ in range(CHOICE.choice((0, 1, 1, 1, 2)))]
+            more = {"waypoint": waypoint()} if CHOICE.random() < 0.3 else {}
+            return workload(*ips, hbone=CHOICE.randint(0, 1), status=CHOICE.choice((0, 0, 0, 1)), net=net, serves=[(key, [(80, 0)])], **more)
+
+        def waypoint():
+            port = CHOICE.choice((0, 0, 15009, 65536))
+            net, ip = CHOICE.choice(("net",) * 4 + ("other",)), CHOICE.choice(("10.1.0.2", "10.0.0.1", "10.0.0.2", "10.0.0.3", "10.0.0.6"))
+            return CHOICE.choice((by_hostname(CHOICE.choice(("way.a", "way.a", "no.a")), port=port), by_address(ip, net=net, port=port)))
+
+        names = CHOICE.sample(["u", "u1", "u2", "ua", "uA", "v", "a"], CHOICE.randint(2, 5))
+        web = service("10.1.0.1", waypoint=waypoint() if CHOICE.random() < 0.8 else None)
+        resources = mesh(web=web, way=WAY_SERVICE, **{name: drawn() for name in names})
+        opens = " ".join(CHOICE.choice(names) for _ in range(CHOICE.randint(0, 6)))
+        yield row(resources, CHOICE.choice(["10.1.0.1"] * 4 + ["10.0.0.1", "10.0.0.2", "10.1.0.2"]), 80, opens)
+
+
 def quoted(lines):
     """The lines as Rust text, those that are too long over several lines."""
     for line in lines:
@@ -195,7 +288,7 @@ def quoted(lines):
 
 
 def main():
-    tables = [choice_rows, refused_rows, port_rows, place_rows, chance_rows]
+    tables = [choice_rows, refused_rows, port_rows, place_rows, chance_rows, waypoint_rows, waypoints_by_chance]
     rows = [row for table in tables for row in table()]
     print("//! Records and ways of connections, printed by bench/tables/route_rows.py, where an evaluator in Python tells each way.\n")
     print("/// Names of records, and their octets in digits.")

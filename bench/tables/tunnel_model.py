@@ -183,24 +183,33 @@ def ports_of(records):
     return tuple((low(port.get(1, 0)), low(port.get(2, 0))) for port in records)
 
 
+def waypoint_of(record):
+    """A waypoint, as the evaluator of routes has it."""
+    if record is None:
+        return None
+    port, at = low(record.get(3, 0)), record.get(2)
+    if 1 in record:
+        return routes.by_hostname(record[1].get(2, ""), record[1].get(1, ""), port)
+    return routes.by_address(at[2], at.get(1, ""), port)
+
+
 def plain_form(record):
     """The record of a workload or a service, as the evaluator of routes has it."""
     if 1 in record:
         workload = record[1]
         serves = [(entry.get(1, ""), ports_of(entry.get(2, {}).get(1, []))) for entry in workload.get(22, [])]
         return routes.workload(*workload.get(3, []), hbone=low(workload.get(5, 0)), status=low(workload.get(17, 0)), serves=serves,
-                               net=workload.get(4, ""), node=workload.get(9, ""), waypoint=8 in workload)
+                               net=workload.get(4, ""), node=workload.get(9, ""), waypoint=waypoint_of(workload.get(8)))
     service = record[2]
     return routes.service(*((at.get(1, ""), at[2]) for at in service.get(4, [])), ns=service.get(2, ""), host=service.get(3, ""),
-                          ports=ports_of(service.get(5, [])), waypoint=7 in service)
+                          ports=ports_of(service.get(5, [])), waypoint=waypoint_of(service.get(7)))
 
 
 def way(held, asked, opens, source, target):
-    """`direct`, the target's text and the endpoint's name, or `-`; `gateway`, the text of its address, the authority and the name; or
-    `none` and the number of why there is none. `opens` has how many connections each endpoint has."""
+    """The way of a connection, as the evaluator of routes has it. `opens` has how many connections each endpoint has."""
     resources = {name: plain_form(version.record) for (kind, name), version in held.items() if kind == ADDRESS}
     return routes.way(resources, opens, source, target.ip, target.port, asked.get("hbone-port", 15008), asked.get("network", ""),
-                      asked["node"]).split()
+                      asked["node"])
 
 
 def identity_at(held, asked, source):
@@ -892,7 +901,7 @@ class Captured:
             return 400, "refused 400", None
         if kind == "gateway":
             self.key, self.authority = (identity_at(self.run.held, self.run.asked, self.peer.ip), self.peer.ip, address), more[0]
-        self.endpoint = more[-1] if more[-1] != "-" else None
+        self.endpoint = more[-1]
         return 200, None, address
 
     def connects_to(self):
