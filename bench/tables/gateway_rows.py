@@ -19,7 +19,7 @@ import tunnel_model
 import tunnel_rows
 from model_rows import answer
 from modelled_rows import DENY, PING, TICK, ask, literal, policies, settings, workloads
-from outbound_rows import ACCEPT, BASE, DOOR, GATE, SOURCE, front, serves, service, told, workload
+from outbound_rows import ACCEPT, ADDRESSED, BASE, DOOR, GATE, MESH, NAMED, SOURCE, WAYPOINT, WAYS, Y5, front, gone, serves, service, told, workload
 from run_table import Table
 from spelling import span, text
 from tunnel_rows import PREFACE, SET, WAKE, came, data, frame, goaway, headers, on, padded, reset, room, single, window, woken
@@ -177,8 +177,8 @@ def dials():
     row("a gateway at the source itself", BASE + begun(destination=SOURCE) + opened(3, OK) + woken(2, b"up"))
     row("a gateway that is the inbound door", BASE + begun(destination="10.0.0.7", port=9090), "--inbound 0.0.0.0:15008 " + DOOR)
     row("a door behind a gateway", BASE + begun(destination="10.0.0.6", port=15001) + opened(3, OK) + woken(2, b"up"))
-    row("a waypoint and not a gateway", BASE + woken(1, told(g6=workload("10.0.0.6", hbone=1, waypoint=routes.WAYPOINT_NAME)))
-        + begun(destination="10.0.0.6"))
+    row("a waypoint that isn't there, and not the workload's gateway", BASE + woken(1, told(g6=workload(
+        "10.0.0.6", hbone=1, waypoint=NAMED))) + begun(destination="10.0.0.6"))
 
 
 def identities():
@@ -323,7 +323,7 @@ def limits():
 # Three endpoints with HBONE and a source more, for pools
 OTHERS = BASE + woken(1, told_records(
     w9=identified(workload(SOURCE, node="n1"), space="a", account="c"),
-    s8=identified(workload("10.0.0.8", node="n1"), space="a", account="c"),
+    s8=identified(workload("10.0.0.88", node="n1"), space="a", account="c"),
     s7=identified(workload("10.0.0.77", node="n1"), space="a", account="d"))) + woken(1, told(g5=workload("10.0.0.55", hbone=1)))
 
 
@@ -332,8 +332,8 @@ def pools():
         + woken(3, data(3, b"c") + data(1, b"d")))
     row("answers in another order", ASKED + begun(link=4) + opened() + woken(3, headers(3, b"\x88")) + woken(4, b"b") + woken(3, OK)
         + woken(2, b"a"))
-    row("sources of one identity have a connection each", OTHERS + begun(b"a") + begun(b"b", link=4, source="10.0.0.8")
-        + begun(b"c", link=6) + begun(b"d", link=7, source="10.0.0.8"))
+    row("sources of one identity have a connection each", OTHERS + begun(b"a") + begun(b"b", link=4, source="10.0.0.88")
+        + begun(b"c", link=6) + begun(b"d", link=7, source="10.0.0.88"))
     row("sources of other identities have a connection each", OTHERS + begun(b"a") + begun(b"b", link=4, source="10.0.0.77")
         + begun(b"c", link=6, source="10.0.0.77"))
     row("gateways have a connection each", OTHERS + begun(b"a", destination="10.0.0.55") + begun(b"b", link=4) + begun(
@@ -523,6 +523,111 @@ def cut_runs():
             + cut(2, b"more of it") + cut(3, data(1, b"answer") + PING + data(1, b"s", True)) + on("end", 2))
 
 
+# Behind the waypoint of outbound_rows.py, which is one pod here or two, are its service `ways`, by an address, and its workload y5, by a
+# hostname
+
+
+def pod(*ips, **more):
+    return workload(*ips, serves=serves("waypoint.a"), **more)
+
+
+WAY = service(WAYPOINT, "waypoint.a", ports=())
+ONE = told(way=WAY, p7=pod("10.0.0.17"))
+BEHIND = BASE + woken(1, ONE)
+TWO_PODS = told(way=WAY, p7=pod("10.0.0.17"), p8=pod("10.0.0.18"))
+PAIR = BASE + woken(1, TWO_PODS)
+THROUGH = BEHIND + begun(destination=WAYS) + opened(3, OK)
+WAY_STAGES = [("while it is dialled", BEHIND + begun(destination=WAYS)), ("while it answers", BEHIND + begun(destination=WAYS) + opened()),
+              ("while a tunnel lives", THROUGH)]
+
+
+def waypoint_by_hand():
+    link, total = tunnel_rows.link, tunnel_rows.total
+    control = tunnel_rows.control(321 + len(told(**MESH)) + len(ONE), 512 + 62)
+    life = begun(b"hello", destination=WAYS) + opened(3, OK) + woken(3, data(1, b"world")) + on("end", 2) + woken(3, data(1, b"", True))
+    # as in the first row of this file, but that the authority is 10.1.0.4:80, which is two octets shorter
+    row("bytes each way through a waypoint", BEHIND + life, want=control + link(2, "outbound", 33, 5, "done")
+        + link(3, "gateway 10.0.0.17:15008", 42, 137, "stopped")
+        + "verdict 2/0 200 10.0.0.9 - 10.1.0.4:80\nend 2/0 done up 5 down 5\n" + total(3, 1, 0, 5, 5))
+    refused = BEHIND + begun(b"lost", destination=WAYS) + on("open", 3) + woken(3, SET + headers(1, b"\x08\x03503", True))
+    row("a waypoint that answers 503", refused, want=control + link(2, "outbound", 32, 0, "up refused 503")
+        + link(3, "gateway 10.0.0.17:15008", 9 + 14, 28 + 24 + 21 + 32 + 9 + 13, "stopped")
+        + "verdict 2/0 502 10.0.0.9 - 10.1.0.4:80\n" + total(3, 0))
+
+
+def waypoints():
+    """Links through a waypoint: what is asked of it is the address that was meant."""
+    waypoint_by_hand()
+    row("what goes to a waypoint", BEHIND + begun(b"abc", destination=WAYS) + opened(3, OK) + on("break", 2), f"{DOOR} --trace")
+    row("what goes to a waypoint of a workload", BEHIND + begun(b"abc", destination=Y5, port=443) + opened(3, OK) + on("break", 2),
+        f"{DOOR} --trace")
+    for code in (403, 404, 299):
+        row(f"a waypoint that answers {code}", BEHIND + begun(destination=WAYS) + opened(3, status(code)) + woken(2, b"up"))
+    two = PAIR + begun(b"a", destination=WAYS)
+    row("two pods, to one of which a connection is open", two + opened(3, OK) + begun(b"b", link=4, destination=WAYS) + opened(5, OK)
+        + woken(2, b"c") + woken(5, data(1, b"d")))
+    row("two pods, and four connections", PAIR + "".join(begun(b"x", link=link, destination=WAYS) for link in (2, 4, 6, 7))
+        + opened(3, OK, headers(3, b"\x88")) + opened(5, OK, headers(3, b"\x88")))
+    row("two pods, of which the first gets the connection back that ended", two + opened(3, OK) + begun(b"b", link=4, destination=WAYS)
+        + opened(5, OK) + on("end", 2) + woken(3, data(1, b"", True)) + begun(b"c", link=6, destination=WAYS) + woken(3, headers(3, b"\x88")))
+    row("two pods, of which the first refuses", two + opened(3, status(503)) + begun(b"b", link=4, destination=WAYS))
+    row("two pods, of which the first doesn't open", two + on("refuse", 3) + begun(b"b", link=4, destination=WAYS) + opened(5, OK))
+    row("two pods, by a hostname and by an address", two + begun(b"b", link=4, destination=Y5) + begun(b"c", link=6, destination=Y5))
+    row("two pods, one of which is also the target itself", two + begun(b"b", link=4, destination="10.0.0.17", port=22)
+        + begun(b"c", link=5, destination=WAYS))
+    row("two pods, the first of which is sick", BASE + woken(1, told(p7=pod("10.0.0.17", status=1), p8=pod("10.0.0.18"), way=WAY))
+        + begun(destination=WAYS) + opened(3, OK) + woken(2, b"up"))
+    row("two pods, the first of which gets sick", two + opened(3, OK) + woken(1, told(p7=pod("10.0.0.17", status=1)))
+        + begun(b"b", link=4, destination=WAYS) + opened(5, OK) + woken(2, b"c"))
+    row("a service and a workload behind one pod share a link", THROUGH + begun(b"b", link=4, destination=Y5) + woken(3, headers(3, b"\x88"))
+        + woken(2, b"a") + woken(3, data(3, b"c") + data(1, b"d")))
+    row("a pod that is the gateway of its own address too", THROUGH + woken(1, told(p7=pod("10.0.0.17", hbone=1)))
+        + begun(b"b", link=4, destination="10.0.0.17", port=22) + woken(3, headers(3, b"\x88")) + woken(2, b"a"))
+    row("two sources through one pod have a link each", OTHERS + woken(1, ONE) + begun(b"a", destination=WAYS) + begun(
+        b"b", link=4, source="10.0.0.88", destination=WAYS) + opened(3, OK) + opened(5, OK))
+    row("a workload that is a waypoint by its address", BASE + woken(1, told(p7=workload(WAYPOINT, "10.0.0.17"))) + begun(destination=WAYS)
+        + opened(3, OK) + woken(2, b"up"))
+    row("the port of a waypoint, and not that of all gateways", BEHIND + begun(destination=WAYS) + opened(3, OK) + woken(2, b"up"),
+        f"{DOOR} --hbone-port 16000")
+    row("the port of all gateways, where the waypoint names none", BEHIND + begun(destination=Y5) + opened(3, OK) + woken(2, b"up"),
+        f"{DOOR} --hbone-port 16000")
+    six = told(p7=pod("2001:db8::17"), way=WAY, x=workload("2001:db8::9", node="n1"))
+    row("a waypoint in IPv6", BASE + woken(1, six) + begun(destination=WAYS) + opened(3, OK) + on("break", 2), f"{DOOR} --trace")
+    row("a source in IPv6, and a waypoint in IPv4", BASE + woken(1, ONE) + woken(1, told(x=workload("2001:db8::9", node="n1"), s=service(
+        "2001:db8::4", "six.a", waypoint=NAMED))) + begun(destination="2001:db8::4", source="2001:db8::9") + opened(3, OK) + on("break", 2),
+        f"{DOOR} --trace")
+    row("a waypoint that is the inbound door", BASE + woken(1, told(p7=workload("10.0.0.8", serves=serves("waypoint.a"))))
+        + begun(destination=Y5), "--inbound 10.0.0.8:15008 " + DOOR)
+    row("a door behind a waypoint", BEHIND + begun(destination=WAYS, port=15001) + opened(3, OK) + woken(2, b"up"))
+    row("a port that the service hasn't, behind a waypoint", BEHIND + begun(destination=WAYS, port=81) + opened(3, OK) + woken(2, b"up"))
+    row("a source that is the waypoint's pod", BEHIND + woken(1, told(p7=pod("10.0.0.17", node="n1"))) + begun(
+        destination=WAYS, source="10.0.0.17") + opened(3, OK) + woken(2, b"up"))
+
+
+def waypoint_updates():
+    """What becomes of waypoints: links that have their way keep it."""
+    updates_ = [
+        ("the waypoint goes", gone("p7", "way")), ("its pod gets sick", told(p7=pod("10.0.0.17", status=1))),
+        ("its pod moves", told(p7=pod("10.0.0.71"))), ("its service is behind it no longer", told(ways=service(WAYS, "web.a"))),
+        ("its service gets another waypoint", told(ways=service(WAYS, "ways.a", waypoint={**NAMED, "host": "no.a"}))),
+        ("its service's waypoint is of another network", told(ways=service(WAYS, "ways.a", waypoint={**ADDRESSED, "net": "x"})))]
+    for name, script in WAY_STAGES:
+        for what, update in updates_:
+            behind = {"while it is dialled": opened(3, OK), "while it answers": woken(3, OK)}.get(name, "")
+            row(f"{what} {name}", script + woken(1, update) + behind + woken(2, b"more") + woken(3, data(1, b"back")) + begun(
+                b"new", link=4, destination=WAYS))
+    row("the waypoint goes, and the last tunnel through it ends", THROUGH + woken(1, gone("p7", "way")) + woken(2, b"up") + on("end", 2)
+        + woken(3, data(1, b"down", True)) + on("end", 3))
+    row("the waypoint goes inside a header", BEHIND + ACCEPT + woken(2, front(WAYS)[:20]) + woken(1, gone("p7", "way")) + woken(2, front(WAYS)[20:]))
+    row("the waypoint comes inside a header", BASE + ACCEPT + woken(2, front(WAYS)[:20]) + woken(1, ONE) + woken(2, front(WAYS)[20:])
+        + opened(3, OK) + woken(2, b"up"))
+    row("a waypoint before a service that had none: its link stays, and the next one goes through", BEHIND + begun(destination=GATE)
+        + opened(3, OK) + woken(1, told(gate=service(GATE, "gate.a", waypoint=NAMED))) + begun(b"new", link=4) + opened(5, OK)
+        + woken(2, b"old"))
+    row("a policy denies each peer, and a tunnel through a waypoint goes on", THROUGH + woken(1, DENY) + woken(2, b"more")
+        + woken(3, data(1, b"back")))
+
+
 def traces():
     """Each fourth row whose trace is short tells that too, but for the order in which several links are closed."""
     rows = [row for row in ROWS[::4] if "another order" not in row[0] and not {"--brief", "--trace"} & {*row[2]}]
@@ -531,7 +636,7 @@ def traces():
 
 def all_rows():
     for rows in (by_hand, statuses, malformed, dials, identities, ends, leaving, limits, pools, places, windows, rooms, faults, updates,
-                 mixed, cut_runs, traces, named):
+                 mixed, cut_runs, waypoints, waypoint_updates, traces, named):
         rows()
     assert len({name for name, *_ in ROWS}) == len(ROWS)
     return ROWS
@@ -546,6 +651,7 @@ PARTS = {
     "tofront": tunnel_model.put_front(tunnel_model.address_of(bytes([10, 0, 0, 9])), tunnel_model.target_of("10.0.0.6:15008"), None).hex(),
     "asks1": (headers(1, b"\x20\x02\x07CONNECT\x01\x0d10.0.0.6:8080")).hex(),
     "mesh": BASE, "meshtold": outbound.PARTS["meshtold"], "told": begun() + opened(3, OK),
+    "one": ONE.hex(), "pair": TWO_PODS.hex(), "ways": front(WAYS).hex(),
 }
 
 

@@ -42,11 +42,14 @@ def serves(host, port=80, target=8080):
 
 
 SOURCE, WEB, GATE, NOBODYS, WAYS = "10.0.0.9", "10.1.0.1", "10.1.0.2", "10.1.0.3", "10.1.0.4"
+# A workload y5 and a service `ways` are behind a waypoint, which isn't there yet
+Y5, WAYPOINT = "10.0.0.5", "10.2.0.1"
+NAMED, ADDRESSED = routes.by_hostname("waypoint.a"), routes.by_address(WAYPOINT, net="", port=15008)
 MESH = {
     "w9": workload(SOURCE, node="n1", hbone=1), "p8": workload("10.0.0.8"), "g6": workload("10.0.0.6", hbone=1, serves=serves("gate.a")),
-    "y5": workload("10.0.0.5", waypoint=routes.WAYPOINT_NAME), "e4": workload("10.0.0.4", serves=serves("web.a")),
+    "y5": workload(Y5, waypoint=NAMED), "e4": workload("10.0.0.4", serves=serves("web.a")),
     "web": service(WEB, "web.a"), "gate": service(GATE, "gate.a"), "nobody": service(NOBODYS, "nobody.a"),
-    "ways": service(WAYS, "ways.a", waypoint=routes.WAYPOINT_ADDRESS)}
+    "ways": service(WAYS, "ways.a", waypoint=ADDRESSED)}
 
 
 def told(**resources):
@@ -124,9 +127,9 @@ def missing():
     row("a service whose endpoint serves another port", BASE + woken(1, told(e4=workload("10.0.0.4", serves=serves("web.a", port=81))))
         + begun())
     row("a port that the service hasn't", BASE + begun(port=81))
-    row("a service with a waypoint", BASE + begun(destination=WAYS))
-    row("a service with a waypoint, at a port that it hasn't", BASE + begun(destination=WAYS, port=81))
-    row("a workload with a waypoint", BASE + begun(destination="10.0.0.5"))
+    row("a service behind a waypoint that isn't there", BASE + begun(destination=WAYS))
+    row("a service behind a waypoint that isn't there, at a port that it hasn't", BASE + begun(destination=WAYS, port=81))
+    row("a workload behind a waypoint that isn't there", BASE + begun(destination=Y5))
     row("bytes behind the header of a link without a route", BASE + begun(b"many more bytes", port=81))
     row("nothing is of the node's network", BASE + begun(), DOOR, "--network", "net")
 
@@ -149,7 +152,7 @@ def straight():
     row("an endpoint of IPv6", BASE + woken(1, told(e4=workload("2001:db8::4", serves=serves("web.a")))) + opened(b"a"))
     row("a service goes before a workload at its address", BASE + woken(1, told(a=workload(WEB))) + opened(b"a"))
     row("an endpoint with a waypoint of its own", BASE + woken(1, told(e4=workload("10.0.0.4", serves=serves("web.a"),
-                                                                                   waypoint=routes.WAYPOINT_NAME))) + opened(b"a"))
+                                                                                   waypoint=NAMED))) + opened(b"a"))
     row("a source that is sick", BASE + woken(1, told(w9=workload(SOURCE, node="n1", status=1))) + opened(b"a"))
     row("a node of a named network", BASE + woken(1, told(x=workload(SOURCE, node="n1", net="net"), y=workload("10.0.0.7", net="net")))
         + opened(b"a", destination="10.0.0.7"), DOOR, "--network", "net")
@@ -390,6 +393,39 @@ def places():
         "--tunnels", "1")
 
 
+def waypoints():
+    """Waypoints that a connection can't go through; runs through others are those of gateway_rows.py."""
+    link, total = tunnel_rows.link, tunnel_rows.total
+
+    def row_7(name, *more, **resources):
+        row(name, BASE + woken(1, told(**resources)) + begun(b"abc", destination=WAYS), DOOR, *more)
+
+    way, pod, sick = service(WAYPOINT, "waypoint.a", ports=()), serves("waypoint.a"), {"status": 1, "serves": serves("waypoint.a")}
+    update = told(way=way, p17=workload("10.0.0.17", **sick))
+    row("a waypoint whose only pod is sick", BASE + woken(1, update) + begun(b"abc", destination=WAYS),
+        want=tunnel_rows.control(321 + len(told(**MESH)) + len(update), 512 + 62) + link(2, "outbound", 31, 0, "no route 7")
+        + "verdict 2/0 503 10.0.0.9 - 10.1.0.4:80\n" + total(2, 0))
+    row_7("a waypoint whose only pod is sick, told", "--trace", way=way, p17=workload("10.0.0.17", **sick))
+    row_7("a waypoint whose only pod has no address", way=way, p17=workload(serves=pod))
+    row_7("a waypoint whose only pod is of another network", way=way, p17=workload("10.0.0.17", net="x", serves=pod))
+    row_7("a waypoint that is a sick workload", p17=workload(WAYPOINT, status=1))
+    row_7("a waypoint at port 70,000", way=way, p17=workload("10.0.0.17", serves=pod),
+          ways=service(WAYS, "ways.a", waypoint={**ADDRESSED, "port": 70000}))
+    far = woken(1, told(p17=workload(WAYPOINT), ways=service(WAYS, "ways.a", waypoint={**ADDRESSED, "net": "x"})))
+    row("a waypoint of another network", BASE + far + begun(destination=WAYS))
+    row("a waypoint of another network, told", BASE + far + begun(destination=WAYS), f"{DOOR} --trace")
+    row("a waypoint that isn't there, told", BASE + begun(destination=WAYS), f"{DOOR} --trace")
+    row("a waypoint whose hostname has no pod", BASE + woken(1, told(way=way)) + begun(destination=Y5))
+    row("a waypoint that isn't there, and a source that isn't known", BASE + begun(destination=WAYS, source="10.0.0.66"))
+    row("a waypoint that isn't there, and nothing was told yet", NOBODY + begun(destination=WAYS))
+    row("a waypoint that isn't there, and a link straight behind that", BASE + begun(destination=WAYS) + opened(b"b", link=3))
+    row("a waypoint at the unspecified address", BASE + woken(1, told(p17=workload("0.0.0.0", serves=pod))) + begun(b"abc", destination=Y5))
+    row("a waypoint that takes a service's way, and a link to its endpoint stays", LIVE + woken(1, told(web=service(
+        WEB, "web.a", waypoint=ADDRESSED))) + woken(2, b"old") + begun(link=4) + woken(3, b"back"))
+    row("a waypoint that gives a service its way back", BASE + begun(destination=WAYS) + woken(1, told(ways=service(WAYS, "web.a")))
+        + opened(b"abc", link=3, destination=WAYS))
+
+
 # The table
 
 HEAD = ["Runs of `hbone replay --outbound`. bench/tables/outbound_rows.py prints this file: a plain model of the pages answers."]
@@ -399,7 +435,7 @@ PARTS = {**plain.PARTS, "frontweb": front().hex(), "mesh": BASE, "meshtold": _TO
 
 def main():
     for rows in (by_hand, missing, straight, chosen, gateways, unsynced, doors, headers, dials, ends, updates, rooms, mixed, traces, nowhere,
-                 waits, named, places):
+                 waits, named, places, waypoints):
         rows()
     assert len({name for name, *_ in ROWS}) == len(ROWS)
     table = Table(HEAD, PARTS)
