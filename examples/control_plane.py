@@ -5,10 +5,10 @@ usage: examples/control_plane.py [--as FOLDER/NAME] [HOST:]PORT FILE
 
 It speaks Envoy's delta discovery over gRPC, with Istio's two types, as docs/FORMATS.md has them under Messages: without TLS, or, with the
 word --as, by mutual TLS with a certificate that examples/certificates.sh made, to clients whose certificate ca.pem signed. FILE is YAML,
-as examples/mesh.yaml: the lists `workloads`, `services` and `policies`, whose members have the names of the fields there, but for
-waypoints. An address is written as text, a prefix as ADDRESS/LENGTH, a choice by its name; the services of a workload as a map, which has
-of each NAMESPACE/HOSTNAME a list of ports. The file is looked at once a second: save it, and each node is sent what changed. A file that
-can't be read changes nothing. A line is printed for each response and for each that a node refused.
+as examples/mesh.yaml: the lists `workloads`, `services` and `policies`, whose members have the names of the fields there. An address is
+written as text, a prefix as ADDRESS/LENGTH, a choice by its name; the services of a workload as a map, which has of each NAMESPACE/HOSTNAME
+a list of ports. The file is looked at once a second: save it, and each node is sent what changed. A file that can't be read changes
+nothing. A line is printed for each response and for each that a node refused.
 
 Needs Debian's python3-grpcio and python3-yaml: run it with /usr/bin/python3.
 """
@@ -79,6 +79,8 @@ def lists(first, names, kind):
 
 
 NETWORK_ADDRESS = {"network": (1, text), "address": (2, address)}
+NAMESPACED_HOSTNAME = {"namespace": (1, text), "hostname": (2, text)}
+GATEWAY = {"hostname": (1, message(NAMESPACED_HOSTNAME)), "address": (2, message(NETWORK_ADDRESS)), "hbone_mtls_port": (3, number)}
 PORT = {"service_port": (1, number), "target_port": (2, number)}
 
 
@@ -95,6 +97,7 @@ WORKLOAD = {
     "tunnel_protocol": (5, named("NONE", "HBONE")),
     "trust_domain": (6, text),
     "service_account": (7, text),
+    "waypoint": (8, message(GATEWAY)),
     "node": (9, text),
     "authorization_policies": (16, many(text)),
     "status": (17, named("HEALTHY", "UNHEALTHY")),
@@ -107,6 +110,7 @@ ENDPOINT = {
     "hostname": (3, text),
     "addresses": (4, many(message(NETWORK_ADDRESS))),
     "ports": (5, many(message(PORT))),
+    "waypoint": (7, message(GATEWAY)),
 }
 STRING = message({"exact": (1, text), "prefix": (2, text), "suffix": (3, text), "presence": (4, presence)})
 MATCH = {

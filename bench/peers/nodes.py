@@ -7,6 +7,7 @@ from concurrent.futures import ThreadPoolExecutor
 from case import case, payload
 from gateways import closed, no_more_memory, pours
 from peers import CALLER, HERE, OTHER, OTHER_SOURCE, SERVICE, SOURCE, echo, far_mesh, free_port, silent, sink, until, wanted
+from waypoints import behind, by_address
 
 CALLER_NAME, OTHER_NAME = (it.removeprefix("spiffe://") for it in (CALLER, OTHER))
 
@@ -247,3 +248,42 @@ def many_from_node_to_node(room):
     for client in clients:
         both_end(client)
     until("all are closed", lambda: [it.proxy.descriptors() for it in (room, far)] == [before[0] + 3, before[1] + 3])
+
+
+def by_far_node(room, door, hbone_port, in_front=None, **far):
+    """A room beside this one with the far node, whose inbound door stands at a port; and the port of all gateways for this one."""
+    resources = behind(in_front, [], **far)
+    there = room.beside()
+    there.start(node="n2", resources=resources, inbound=door)
+    room.start("--hbone-port", str(hbone_port), resources=resources, outbound=free_port())
+    return there
+
+
+@case
+def through_a_waypoint_of_another_node(room):
+    """A workload behind a waypoint that is the far node's inbound door, by the workload's own address and the door's port: it lets the
+    source's identity in, and bytes and ends go both ways. Behind an update that takes the waypoint away the tunnel goes on, and the next
+    connection is dialled at the port of all gateways, where nobody listens."""
+    door, up = free_port(), room.upstream(echo)
+    far = by_far_node(room, door, free_port(), waypoint={**by_address(HERE), "hbone_mtls_port": door})
+    client = room.captured(up.port)
+    says(client, payload(100_000))
+    room.update(behind(None, []))
+    closed(None, room.captured(up.port))
+    says(client)
+    both_end(client)
+    let_in = f"verdict 200 {SOURCE} - {HERE}:{up.port}"
+    room.proxy.noted(let_in, let_in.replace("200", "502"), "end done up 100005 down 100005")
+    far.proxy.noted(f"verdict 200 {SOURCE} {CALLER_NAME} {HERE}:{up.port}", "end done up 100005 down 100005")
+
+
+@case
+def a_node_that_is_no_waypoint(room):
+    """A service behind a waypoint that is the far node's inbound door: asked for another address than its own it answers 400, and the
+    connection is closed without a byte; one to the workload itself, which is behind none, goes through on the same link."""
+    door, up = free_port(), room.upstream(echo)
+    far = by_far_node(room, door, door, by_address(HERE))
+    closed(None, room.captured(80, SERVICE))
+    says(room.captured(up.port))
+    room.proxy.noted(f"verdict 502 {SOURCE} - {SERVICE}:80", f"verdict 200 {SOURCE} - {HERE}:{up.port}")
+    far.proxy.noted(f"verdict 400 {SOURCE} {CALLER_NAME} {SERVICE}:80", f"verdict 200 {SOURCE} {CALLER_NAME} {HERE}:{up.port}")

@@ -495,8 +495,8 @@ class Link(End):
 class Gateway:
     """A server of HTTP/2 behind a header, whose connections are taken one by one."""
 
-    def __init__(self, port=0):
-        self.server, self.links = socket.create_server((HERE, port), backlog=128), []
+    def __init__(self, port=0, host=HERE):
+        self.server, self.links = socket.create_server((host, port), backlog=128), []
         self.server.settimeout(10)
         self.port = self.server.getsockname()[1]
 
