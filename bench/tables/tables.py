@@ -39,6 +39,7 @@ RUNS = [
     ("mesh_rows.py", "route/meshes"),
     ("refusal_rows.py", "show/refusals"),
     ("show_rows.py", "show/shows"),
+    ("fields_rows.py", "show/fields"),
     ("replay_rows.py", "replay/control"),
     ("tunnel_rows.py", "replay/inbound"),
     ("modelled_rows.py", "replay/modelled"),
