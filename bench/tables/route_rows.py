@@ -260,7 +260,7 @@ def chance_rows():
 def waypoints_by_chance():
     """Small meshes of which most have a waypoint."""
     yield "# meshes with waypoints by chance"
-    for _ in range(40):
+    for _ in range(16):
         def drawn():
             net, key = CHOICE.choice(("net",) * 5 + ("other",)), CHOICE.choice(("a/way.a", "a/way.a", "a/web.a", "a/no.a"))
             ips = [f"10.0.0.{CHOICE.randint(1, 5)}" for _ in range(CHOICE.choice((0, 1, 1, 1, 2)))]
