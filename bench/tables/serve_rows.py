@@ -1,26 +1,32 @@
 #!/usr/bin/python3
-"""Prints crates/hb_serve_rows/src/frames.rt: the octets of a control plane, of a peer and of a gateway of `hbone serve` on the loopback
-of this machine, and what the program is to send them.
+"""Prints tests/sockets/serve.frames: the octets of a control plane, of a peer and of a gateway of `hbone serve` on the loopback of this
+machine, and what the program is to send them.
 
 The octets are those of the runs of `replay`, worked out by hand in tunnel_rows.py, with the address of this machine in the place of
 10.0.0.7; the program's opening and its requests, and what it writes to a gateway, are those of the second, plain models.
 
-    python3 bench/tables/serve_rows.py > crates/hb_serve_rows/src/frames.rt
+    python3 bench/tables/serve_rows.py > tests/sockets/serve.frames
 """
-import re
+import pathlib
+import sys
 
 import modelled_rows
 import replay_model as model
+import routes
 import tunnel_model
-from spelling import number, text, workload
+from spelling import number, span, text, workload
 from tunnel_rows import ACK, ADMITTED, ANSWER, CANCEL, CONNECT_ERROR, FIRST, FIRST_RESPONSE, NO_ERROR, OPENING, OWN, PEER, REFUSED_400
 from tunnel_rows import REFUSED_503, SECOND_RESPONSE, SET, UPDATE, data, frame, goaway, headers, reset
 
-HEAD = """//! What goes to and fro between `hbone serve` and its peers. bench/tables/serve_rows.py prints this file.
-//!
-//! Five marks `#` stand for the digits of a port.
+sys.path.insert(0, str(pathlib.Path(__file__).resolve().parents[2] / "tests"))
+
+import rows  # noqa: E402
+
+HEAD = """# What goes to and fro between `hbone serve` and its peers, for serve.rows. bench/tables/serve_rows.py prints this file.
+#
+# `frame NAME OCTETS`: in the octets \\x and two digits stand for one, and five marks for the digits of a port.
 """
-PORT = b"#####"
+PORT = rows.PORT_MARKS
 
 
 def here(octets):
@@ -39,8 +45,30 @@ def asked():
 # The workload u1 with an account, by which it has the peer's identity
 NAMED = modelled_rows.workloads(("u1", workload("web", "a", [[10, 0, 0, 7]], "n1", ["a/p"], text(7, "c"), number(5, 1))))
 HERE = tunnel_model.target_of("127.0.0.1:15008")
-GATE_FRONT = tunnel_model.put_front(HERE.ip, HERE, "spiffe://" + PEER.decode())
+
+
+def gate_front(at):
+    """The header of a link of the workload u1 to a gateway."""
+    return tunnel_model.put_front(HERE.ip, tunnel_model.target_of(at), "spiffe://" + PEER.decode())
+
+
+def opening(request):
+    """What stands behind the gateway's port on such a link: the rest of its header, a client's opening, and a request on stream 1."""
+    return gate_front("127.0.0.1:15008")[28:] + tunnel_model.CLIENT + headers(1, FIRST + request)
+
+
 TO_PORT = b"\x02\x07CONNECT\x01\x0f127.0.0.1:" + PORT
+TO_SERVICE = b"\x02\x07CONNECT\x01\x0c127.0.0.3:80"
+
+
+def behind_waypoint(status):
+    """A response with the service web.a at 127.0.0.3:80, of which u1 is an endpoint, behind a waypoint with one workload of this status."""
+    endpoint = routes.workload("127.0.0.1", net="", node="n1", serves=[("a/web.a", [(80, 8080)])])
+    u1 = routes.spelled(endpoint) + span(1, text(2, "a") + text(7, "c"))
+    w1 = routes.spelled(routes.workload("127.0.0.2", net="", serves=[("a/way.a", [(15008, 15008)])], status=status))
+    web = routes.spelled(routes.service("127.0.0.3", waypoint=routes.by_hostname("way.a"), net=""))
+    return modelled_rows.workloads(("u1", u1), ("w1", w1), ("web", web))
+
 
 TABLE = [
     ("ASKED", "What the program writes to its control plane first. The port is the control plane's.", asked()),
@@ -75,33 +103,36 @@ TABLE = [
     ("LAST", "The end of stream 1.", data(1, end=True)),
     ("PING", "A PING.", frame(6, 0, 0, b"12345678")),
     ("PONG", "Its answer.", frame(6, 1, 0, b"12345678")),
-    ("GATE_FRONT", "The header of a link to a gateway, both at this machine, up to the gateway's port.", GATE_FRONT[:26]),
+    ("GATE_FRONT", "The header of a link to a gateway, both at this machine, up to the gateway's port.",
+     gate_front("127.0.0.1:15008")[:26]),
     ("GATE_OPENING", "What stands behind it: the identity of the workload u1, a client's opening, and a request on stream 1.",
-     GATE_FRONT[28:] + tunnel_model.CLIENT + headers(1, FIRST + TO_PORT)),
+     opening(TO_PORT)),
     ("SECOND_REQUEST", "A request on stream 3, not the first of its link, for a port of this machine.", headers(3, TO_PORT)),
     ("SECOND_REFUSED", "The gateway's answer 503 to it.", headers(3, REFUSED_503, True)),
     ("SECOND_GIVEN_UP", "Stream 3 is reset, as a request is that was refused.", reset(3, CANCEL)),
     ("LARGE_HEAD", "The head of DATA on stream 1 with 16,384 octets.", data(1, bytes(16384))[:9]),
     ("GOES_AWAY", "A GOAWAY whose last stream is stream 1.", goaway(1, NO_ERROR)),
+    ("WAYPOINT", "A response with a service at 127.0.0.3:80, of which u1 is an endpoint, behind a waypoint at 127.0.0.2.",
+     behind_waypoint(0)),
+    ("SICK_WAYPOINT", "The same, but the one workload of the waypoint is unhealthy.", behind_waypoint(1)),
+    ("SERVICE_HEADER", "The header of a captured connection from this machine to the service, whole.",
+     modelled_rows.front(None, source="7f000001", destination="7f000003")[:26] + (80).to_bytes(2, "big")),
+    ("WAYPOINT_FRONT", "The header of a link to the waypoint's gateway, from this machine, up to the gateway's port.",
+     gate_front("127.0.0.2:15008")[:26]),
+    ("WAYPOINT_OPENING", "What stands behind it, with a request for the service.", opening(TO_SERVICE)),
 ]
 
 
 def spelled(octets):
-    """The octets in a literal, in pieces of at most 120 characters."""
-    marks = [chr(octet) if 32 < octet < 127 and chr(octet) not in '"\\' else f"\\x{octet:02x}" for octet in octets]
-    lines = [""]
-    for mark in marks:
-        if len(lines[-1]) + len(mark) > 120:
-            lines.append("")
-        lines[-1] += mark
-    return "\\\n".join(lines)
+    """The octets in a line."""
+    return "".join(chr(octet) if 32 <= octet < 127 and octet != ord("\\") else f"\\x{octet:02x}" for octet in octets)
 
 
 def main():
-    print(HEAD, end="")
-    for name, about, octets in TABLE:
-        assert octets.count(b"#") in (0, 5) and len(re.findall(PORT, octets)) == octets.count(b"#") // 5
-        print(f'\n/// {about}\npub const {name}: &[u8] = b"\\\n{spelled(octets)}";')
+    printed = HEAD + "".join(f"\n# {about}\nframe {name} {spelled(octets)}\n" for name, about, octets in TABLE)
+    assert rows.read_frames(printed) == {name: octets for name, _, octets in TABLE}
+    assert all(octets.count(b"#") == 5 * octets.count(PORT) for _, _, octets in TABLE)
+    print(printed, end="")
 
 
 if __name__ == "__main__":

@@ -26,7 +26,6 @@ WHOLE = [
     ("request_rows.py", "hb_resources_rows", "written.rt"),
     ("lines_rows.py", "hb_resources_rows", "lines_told.rt"),
     ("route_rows.py", "hb_tunnels_rows", "route_rows.rt"),
-    ("serve_rows.py", "hb_serve_rows", "frames.rt"),
     ("lives_rows.py", "hb_lives_rows", "octets.rt"),
 ]
 # Each script, and the table of runs in tests/ that it prints
@@ -48,6 +47,8 @@ RUNS = [
     ("gateway_rows.py", "replay/gateways"),
     ("make_rows.py", "make/made"),
 ]
+# Each script, and the frames in tests/ that it prints; `.ci/sockets` names those that no row plays
+FRAMES = [("serve_rows.py", "tests/sockets/serve.frames")]
 PARTS = [("frame_vectors.py", "hb_http2_rows", "frame_vectors.rt"), ("verdict_rows.py", "hb_tunnels_rows", "requests.rt")]
 
 
@@ -107,8 +108,7 @@ def main():
             differ += 1
     for script, crate, file in WHOLE + PARTS:
         differ += not is_told_same(script, f"crates/{crate}/src/{file}", lambda printed: is_same(script, crate, file, printed))
-    for script, name in RUNS:
-        path = f"tests/{name}.runs"
+    for script, path in [*((script, f"tests/{name}.runs") for script, name in RUNS), *FRAMES]:
         differ += not is_told_same(script, path, lambda printed: (TOP / path).read_text() == printed)
     return 1 if differ else 0
 
