@@ -13,7 +13,6 @@ import sys
 
 import attribute_rows
 import refusal_rows
-import replay_model
 import run_table
 import show_rows
 from replay_model import ADDRESS_RECORD
