@@ -20,7 +20,7 @@ use Rattle.hb_words.specs.declared.fault.Why.{Why}
 use Rattle.hb_words.specs.declared.fault.WordsFault.{WordsFault}
 use Rattle.hb_words.specs.declared.fault.WordsFault.TheVariants.{UnknownCommand, Behind}
 use Rattle.hb_words.specs.declared.part.CommandName.{CommandName}
-use Rattle.hb_words.specs.declared.part.CommandName.TheVariants.{Check, Show, Make, Replay, Serve}
+use Rattle.hb_words.specs.declared.part.CommandName.TheVariants.{Check, Route, Show, Make, Replay, Serve}
 use Rattle.hb_words.specs.declared.page.Page.{Page}
 use Rattle.hb_words.specs.declared.page.Page.TheVariants.{Commands, Words, Version}
 use Rattle.hb_words.specs.Command.{Command as Asked, prints}
@@ -39,6 +39,7 @@ are_all_proper = refl
 
 own_named : (c : CommandName) → command_named (command_text c) ≡ Some c
 own_named Check = refl
+own_named Route = refl
 own_named Show = refl
 own_named Make = refl
 own_named Replay = refl
@@ -59,7 +60,9 @@ module _ (word : Text) (d : Command) where
 
   is_declared : declared_named commands word ≡ Some d → IsDeclared word d
   is_declared =
-      one_or Check _ _ refl (one_or Show _ _ refl (one_or Make _ _ refl (one_or Replay _ _ refl (one_or Serve None _ refl (λ is. cc)))))
+      one_or Check _ _ refl
+      (one_or Route _ _ refl
+      (one_or Show _ _ refl (one_or Make _ _ refl (one_or Replay _ _ refl (one_or Serve None _ refl (λ is. cc))))))
 
 -- ---- words that are accepted
 
@@ -138,7 +141,8 @@ module _ (name : Text) (c : CommandName) where
   named_text : command_named name ≡ Some c → name ≡ command_text c
   named_text =
       named_or Check _ _ refl
-      (named_or Show _ _ refl (named_or Make _ _ refl (named_or Replay _ _ refl (named_or Serve None _ refl (λ is. cc)))))
+      (named_or Route _ _ refl
+      (named_or Show _ _ refl (named_or Make _ _ refl (named_or Replay _ _ refl (named_or Serve None _ refl (λ is. cc))))))
 
 two_words : (name word : Text) (p : Page) (help : Bool) (o : Option CommandName) → bytes_eq word (codes "--help") ≡ help
     → command_named name ≡ o → cond help (option_map Words o) None ≡ Some p → SpellsPage (name ∷ word ∷ []) p
@@ -162,6 +166,7 @@ unfolding is_accepted clap_on_literals
 page_unaccepted words Commands is = subst (λ (l : List Text). is_accepted l ≡ false) (sym is) refl
 page_unaccepted words Version is = subst (λ (l : List Text). is_accepted l ≡ false) (sym is) refl
 page_unaccepted words (Words Check) is = subst (λ (l : List Text). is_accepted l ≡ false) (sym is) refl
+page_unaccepted words (Words Route) is = subst (λ (l : List Text). is_accepted l ≡ false) (sym is) refl
 page_unaccepted words (Words Show) is = subst (λ (l : List Text). is_accepted l ≡ false) (sym is) refl
 page_unaccepted words (Words Make) is = subst (λ (l : List Text). is_accepted l ≡ false) (sym is) refl
 page_unaccepted words (Words Replay) is = subst (λ (l : List Text). is_accepted l ≡ false) (sym is) refl

@@ -1,15 +1,26 @@
 -- What the words ask for.
 use Rattle.std.specs.Prelude.{ℕ, Bool, List, Option}
+use Rattle.hb_base.specs.declared.ip.Ip.{Ip}
 use Rattle.hb_base.specs.declared.peer.Peer.{Peer}
 use Rattle.hb_base.specs.declared.target.Target.{Target}
 use Rattle.hb_words.specs.declared.asks.Make.{Make}
+use Rattle.hb_words.specs.declared.asks.Show.{Show}
 use Rattle.hb_words.specs.declared.page.Page.{Page}
 
--- what `check` asks: is this peer admitted at this target of this node of this network?
+-- what `check` asks: is this peer admitted at this target of this node of this network? And whether the policies that count are told, too
 pub record Question : Type 0 where
   pub node : List ℕ
   pub network : List ℕ
   pub peer : Peer
+  pub target : Target
+  pub explain : Bool
+
+-- what `route` asks: which way does a connection of the workload of this address, of this node and network, take to this target?
+pub record Route : Type 0 where
+  pub node : List ℕ
+  pub network : List ℕ
+  pub hbone_port : ℕ
+  pub source : Ip
   pub target : Target
 
 -- what a run of the proxy is asked: who the node is, where its control plane is, where its inbound door listens, its outbound and its
@@ -38,11 +49,12 @@ pub record Serve : Type 0 where
   pub ticks : Option ℕ
   pub stop_on_input : Bool
 
--- what is asked for: an answer to a question, what is held, a run over a script, one over real sockets, a script that is made, or a page
+-- what is asked for: an answer to a question, the way of a connection, what is held, a run over a script, one over real sockets, a script that is made, or a page
 -- of the program's own
 pub data Command : Type 0 where
   checks : Question → Command
-  shows : Command
+  routes : Route → Command
+  shows : Show → Command
   replays : Replay → Command
   serves : Serve → Command
   makes : Make → Command

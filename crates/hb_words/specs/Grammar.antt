@@ -3,10 +3,11 @@
 use Rattle.std.specs.Prelude.{ℕ, true, false, List, [], ◌∷◌, codes}
 use Rattle.hb_options.specs.Items.{Part, option, flag, place, Command}
 use Rattle.hb_words.specs.declared.part.CommandName.{CommandName}
-use Rattle.hb_words.specs.declared.part.CommandName.TheVariants.{Check, Show, Make, Replay, Serve}
+use Rattle.hb_words.specs.declared.part.CommandName.TheVariants.{Check, Route, Show, Make, Replay, Serve}
 
 abbrev pub command_text : CommandName → List ℕ
 command_text Check = codes "check"
+command_text Route = codes "route"
 command_text Show = codes "show"
 command_text Make = codes "make"
 command_text Replay = codes "replay"
@@ -21,9 +22,12 @@ run_parts own =
 
 abbrev pub parts_of : CommandName → List Part
 parts_of Check =
-    option (codes "node") true ∷ option (codes "network") false ∷ place (codes "SOURCE") true ∷ place (codes "IDENTITY") true
+    option (codes "node") true ∷ option (codes "network") false ∷ flag (codes "explain") ∷ place (codes "SOURCE") true
+    ∷ place (codes "IDENTITY") true ∷ place (codes "TARGET") true ∷ []
+parts_of Route =
+    option (codes "node") true ∷ option (codes "network") false ∷ option (codes "hbone-port") false ∷ place (codes "SOURCE") true
     ∷ place (codes "TARGET") true ∷ []
-parts_of Show = []
+parts_of Show = flag (codes "fields") ∷ []
 parts_of Make = place (codes "N") true ∷ flag (codes "run") ∷ []
 parts_of Replay = run_parts (flag (codes "trace") ∷ flag (codes "brief") ∷ [])
 parts_of Serve = run_parts (option (codes "ticks") false ∷ flag (codes "stop-on-input") ∷ [])
@@ -33,4 +37,4 @@ abbrev pub declared : CommandName → Command
 declared c = record { name = command_text c; parts = parts_of c }
 
 abbrev pub commands : List Command
-commands = declared Check ∷ declared Show ∷ declared Make ∷ declared Replay ∷ declared Serve ∷ []
+commands = declared Check ∷ declared Route ∷ declared Show ∷ declared Make ∷ declared Replay ∷ declared Serve ∷ []

@@ -6,9 +6,9 @@ use Rattle.hb_options.specs.Items.{name_of}
 use Rattle.hb_words.specs.declared.page.Page.{Page}
 use Rattle.hb_words.specs.declared.page.Page.TheVariants.{Commands, Words, Version}
 use Rattle.hb_words.specs.declared.part.CommandName.{CommandName}
-use Rattle.hb_words.specs.declared.part.CommandName.TheVariants.{Check, Show, Make, Replay, Serve}
+use Rattle.hb_words.specs.declared.part.CommandName.TheVariants.{Check, Route, Show, Make, Replay, Serve}
 use Rattle.hb_words.specs.declared.part.PartName.{PartName}
-use Rattle.hb_words.specs.declared.part.PartName.TheVariants.{Node, Network, Source, Identity, Target, Id, Discovery, Inbound, Outbound, Plain, HbonePort, Tunnels, Turns, Ticks, StopOnInput, Trace, Brief, Count, Run}
+use Rattle.hb_words.specs.declared.part.PartName.TheVariants.{Node, Network, Explain, Source, Identity, Target, Fields, Id, Discovery, Inbound, Outbound, Plain, HbonePort, Tunnels, Turns, Ticks, StopOnInput, Trace, Brief, Count, Run}
 use Rattle.hb_words.specs.Grammar.{command_text, parts_of}
 use Rattle.hb_words.specs.Part.{id_text, command_named}
 
@@ -42,8 +42,9 @@ version = codes "0.1.0"
 
 -- the form of a command's words
 abbrev pub usage_of : CommandName → List ℕ
-usage_of Check = codes "hbone check --node NODE [--network NETWORK] SOURCE IDENTITY TARGET"
-usage_of Show = codes "hbone show"
+usage_of Check = codes "hbone check --node NODE [--network NETWORK] [--explain] SOURCE IDENTITY TARGET"
+usage_of Route = codes "hbone route --node NODE [--network NETWORK] [--hbone-port PORT] SOURCE TARGET"
+usage_of Show = codes "hbone show [--fields]"
 usage_of Make = codes "hbone make N [--run]"
 usage_of Replay = codes "hbone replay --node NODE --id ID --discovery TARGET [OPTION ..]"
 usage_of Serve = codes "hbone serve --node NODE --id ID --discovery TARGET [OPTION ..]"
@@ -51,6 +52,7 @@ usage_of Serve = codes "hbone serve --node NODE --id ID --discovery TARGET [OPTI
 -- what a command does
 abbrev pub purpose_of : CommandName → List ℕ
 purpose_of Check = codes "Tells whether a peer may connect to an address and port, by the discovery responses on standard input."
+purpose_of Route = codes "Tells which way a connection to an address and port takes, by the discovery responses on standard input."
 purpose_of Show = codes "Tells what each discovery response on standard input did, and what the node holds after them."
 purpose_of Make = codes "Prints a script of N tunnels for replay, or the totals of its run."
 purpose_of Replay = codes "Runs the proxy over the script of socket events on standard input, and prints a report."
@@ -59,6 +61,7 @@ purpose_of Serve = codes "Runs the proxy over real sockets, and prints its total
 -- its name, before that
 abbrev pub column_of : CommandName → List ℕ
 column_of Check = codes "  check       "
+column_of Route = codes "  route       "
 column_of Show = codes "  show        "
 column_of Make = codes "  make        "
 column_of Replay = codes "  replay      "
@@ -71,9 +74,11 @@ command_line c = column_of c ++ purpose_of c ++ codes "\n"
 abbrev pub part_line : PartName → List ℕ
 part_line Node = codes "  --node NODE           the name of the node\n"
 part_line Network = codes "  --network NETWORK     the node's network; without it the one whose name is empty\n"
-part_line Source = codes "  SOURCE                the peer's address\n"
+part_line Explain = codes "  --explain             tells each policy that counts, too\n"
+part_line Source = codes "  SOURCE                the address that connects\n"
 part_line Identity = codes "  IDENTITY              none, or spiffe://TRUST_DOMAIN/ns/NAMESPACE/sa/SERVICE_ACCOUNT\n"
 part_line Target = codes "  TARGET                the address and port that it asks for, as 10.0.0.7:8080 or [::1]:8080\n"
+part_line Fields = codes "  --fields              tells the fields of each resource held, too\n"
 part_line Id = codes "  --id ID               the id that the node tells its control plane\n"
 part_line Discovery = codes "  --discovery TARGET    the address of the control plane, as 10.0.0.1:15010 or [::1]:15010\n"
 part_line Inbound = codes "  --inbound TARGET      where the inbound door listens; without it there is none\n"
@@ -91,8 +96,9 @@ part_line Run = codes "  --run                 runs the proxy over the script, a
 
 -- the parts of a command, in the order in which it declares them
 abbrev pub shown_parts : CommandName → List PartName
-shown_parts Check = Node ∷ Network ∷ Source ∷ Identity ∷ Target ∷ []
-shown_parts Show = []
+shown_parts Check = Node ∷ Network ∷ Explain ∷ Source ∷ Identity ∷ Target ∷ []
+shown_parts Route = Node ∷ Network ∷ HbonePort ∷ Source ∷ Target ∷ []
+shown_parts Show = Fields ∷ []
 shown_parts Make = Count ∷ Run ∷ []
 shown_parts Replay =
     Node ∷ Id ∷ Discovery ∷ Inbound ∷ Outbound ∷ Plain ∷ Network ∷ HbonePort ∷ Tunnels ∷ Turns ∷ Trace ∷ Brief ∷ []
@@ -101,7 +107,7 @@ shown_parts Serve =
 
 -- the commands, in the order of their lines
 abbrev pub shown_commands : List CommandName
-shown_commands = Check ∷ Show ∷ Make ∷ Replay ∷ Serve ∷ []
+shown_commands = Check ∷ Route ∷ Show ∷ Make ∷ Replay ∷ Serve ∷ []
 
 -- a line of each command
 abbrev pub commands_page : List CommandName → List ℕ

@@ -2,26 +2,29 @@
 use Rattle.std.specs.Prelude.{ℕ, Bool, true, false, List, [], ◌∷◌, ◌++◌, Option, Some, None, if◌then◌else◌, codes}
 use Rattle.std.specs.Str.{bytes_eq}
 use Rattle.hb_words.specs.declared.part.CommandName.{CommandName}
-use Rattle.hb_words.specs.declared.part.CommandName.TheVariants.{Check, Show, Make, Replay, Serve}
+use Rattle.hb_words.specs.declared.part.CommandName.TheVariants.{Check, Route, Show, Make, Replay, Serve}
 use Rattle.hb_words.specs.declared.part.PartName.{PartName}
-use Rattle.hb_words.specs.declared.part.PartName.TheVariants.{Node, Network, Source, Identity, Target, Id, Discovery, Inbound, Outbound, Plain, HbonePort, Tunnels, Turns, Ticks, StopOnInput, Trace, Brief, Count, Run}
+use Rattle.hb_words.specs.declared.part.PartName.TheVariants.{Node, Network, Explain, Source, Identity, Target, Fields, Id, Discovery, Inbound, Outbound, Plain, HbonePort, Tunnels, Turns, Ticks, StopOnInput, Trace, Brief, Count, Run}
 
 -- the command that a word names
 abbrev pub command_named : List ℕ → Option CommandName
 command_named word =
     if bytes_eq word (codes "check") then Some Check
+    else (if bytes_eq word (codes "route") then Some Route
     else (if bytes_eq word (codes "show") then Some Show
     else (if bytes_eq word (codes "make") then Some Make
     else (if bytes_eq word (codes "replay") then Some Replay
-    else (if bytes_eq word (codes "serve") then Some Serve else None))))
+    else (if bytes_eq word (codes "serve") then Some Serve else None)))))
 
 -- its name in the command's declaration
 abbrev pub id_text : PartName → List ℕ
 id_text Node = codes "node"
 id_text Network = codes "network"
+id_text Explain = codes "explain"
 id_text Source = codes "SOURCE"
 id_text Identity = codes "IDENTITY"
 id_text Target = codes "TARGET"
+id_text Fields = codes "fields"
 id_text Id = codes "id"
 id_text Discovery = codes "discovery"
 id_text Inbound = codes "inbound"
@@ -50,16 +53,21 @@ abbrev pub name_text : PartName → List ℕ
 name_text p = dashes p ++ id_text p
 
 -- any option or flag of this name
+abbrev pub any_flag : List ℕ → Option PartName
+any_flag name =
+    if bytes_eq name (codes "--explain") then Some Explain
+    else (if bytes_eq name (codes "--fields") then Some Fields
+    else (if bytes_eq name (codes "--stop-on-input") then Some StopOnInput
+    else (if bytes_eq name (codes "--trace") then Some Trace
+    else (if bytes_eq name (codes "--brief") then Some Brief
+    else (if bytes_eq name (codes "--run") then Some Run else None)))))
+
 abbrev pub other_option : List ℕ → Option PartName
 other_option name =
     if bytes_eq name (codes "--hbone-port") then Some HbonePort
     else (if bytes_eq name (codes "--tunnels") then Some Tunnels
     else (if bytes_eq name (codes "--turns") then Some Turns
-    else (if bytes_eq name (codes "--ticks") then Some Ticks
-    else (if bytes_eq name (codes "--stop-on-input") then Some StopOnInput
-    else (if bytes_eq name (codes "--trace") then Some Trace
-    else (if bytes_eq name (codes "--brief") then Some Brief
-    else (if bytes_eq name (codes "--run") then Some Run else None)))))))
+    else (if bytes_eq name (codes "--ticks") then Some Ticks else any_flag name)))
 
 abbrev pub any_option : List ℕ → Option PartName
 any_option name =
@@ -86,6 +94,8 @@ is_run_option Turns = true
 is_run_option _ = false
 
 abbrev pub is_flag : PartName → Bool
+is_flag Explain = true
+is_flag Fields = true
 is_flag StopOnInput = true
 is_flag Trace = true
 is_flag Brief = true
@@ -96,7 +106,13 @@ is_flag _ = false
 abbrev pub has : CommandName → PartName → Bool
 has Check Node = true
 has Check Network = true
+has Check Explain = true
 has Check _ = false
+has Route Node = true
+has Route Network = true
+has Route HbonePort = true
+has Route _ = false
+has Show Fields = true
 has Show _ = false
 has Make Run = true
 has Make _ = false
@@ -118,5 +134,6 @@ part_of c name = held (has c) (any_option name)
 -- its words in places, in their order
 abbrev pub places_of : CommandName → List PartName
 places_of Check = Source ∷ Identity ∷ Target ∷ []
+places_of Route = Source ∷ Target ∷ []
 places_of Make = Count ∷ []
 places_of _ = []

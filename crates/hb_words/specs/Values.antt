@@ -4,6 +4,7 @@ use Rattle.std.specs.Option.{ok_or, option_map_or, unwrap_or}
 use Rattle.std.specs.Result.{result_ok}
 use Rattle.std.specs.Str.{bytes_eq}
 use Rattle.hb_base.specs.declared.identity.Identity.{Identity}
+use Rattle.hb_base.specs.declared.ip.Ip.{Ip}
 use Rattle.hb_base.specs.declared.target.BadTarget.{BadTarget as TargetFault}
 use Rattle.hb_base.specs.declared.target.Target.{Target as Address}
 use Rattle.hb_base.specs.IdentityText.{identity_of}
@@ -16,8 +17,8 @@ use Rattle.hb_words.specs.declared.fault.Why.TheVariants.{BadValue, BadTarget}
 use Rattle.hb_words.specs.declared.part.CommandName.{CommandName}
 use Rattle.hb_words.specs.declared.part.CommandName.TheVariants as command
 use Rattle.hb_words.specs.declared.part.PartName.{PartName}
-use Rattle.hb_words.specs.declared.part.PartName.TheVariants.{Node, Network, Source, Identity as Peer, Target, Id, Discovery, Inbound, Outbound, Plain, HbonePort, Tunnels, Turns, Ticks, StopOnInput, Trace, Brief, Count, Run}
-use Rattle.hb_words.specs.Command.{Question, Command, RunWords, Replay, Serve, checks, shows, replays, serves, makes}
+use Rattle.hb_words.specs.declared.part.PartName.TheVariants.{Node, Network, Explain, Source, Identity as Peer, Target, Fields, Id, Discovery, Inbound, Outbound, Plain, HbonePort, Tunnels, Turns, Ticks, StopOnInput, Trace, Brief, Count, Run}
+use Rattle.hb_words.specs.Command.{Question, Route, Command, RunWords, Replay, Serve, checks, routes, shows, replays, serves, makes}
 use Rattle.hb_words.specs.Make.{most_tunnels}
 use Rattle.hb_words.specs.Number.{number_of}
 use Rattle.hb_words.specs.Part.{id_text}
@@ -68,16 +69,37 @@ abbrev pub target_or : Result Address TargetFault → Result Address Why
 target_or (Ok target) = Ok target
 target_or (Err fault) = Err (BadTarget fault)
 
+-- the address in the place of SOURCE, and the address and port in that of TARGET
+abbrev pub source_in : Values → Result Ip Why
+source_in v = read_by ip_of Source (text_in v Source)
+
+abbrev pub place_target : Values → Result Address Why
+place_target v = target_or (target_of (text_in v Target))
+
 -- a network that isn't named has the empty name
 unfoldable pub check_by : Values → Result Question Why
 check_by v =
-    and_then (read_by ip_of Source (text_in v Source)) (λ ip.
+    and_then (source_in v) (λ ip.
     and_then (identity_or_none (text_in v Peer)) (λ identity.
-    and_then (target_or (target_of (text_in v Target))) (λ target.
+    and_then (place_target v) (λ target.
     Ok (record {
       node = text_in v Node;
       network = text_in v Network;
       peer = record { ip = ip; identity = identity };
+      target = target;
+      explain = is_raised v Explain;
+    }))))
+
+unfoldable pub route_by : Values → Result Route Why
+route_by v =
+    and_then (number_or v HbonePort 65535 15008) (λ hbone_port.
+    and_then (source_in v) (λ source.
+    and_then (place_target v) (λ target.
+    Ok (record {
+      node = text_in v Node;
+      network = text_in v Network;
+      hbone_port = hbone_port;
+      source = source;
       target = target;
     }))))
 
@@ -119,7 +141,8 @@ serve_by v =
 -- what the command asks that has these values, or the first that isn't of its grammar and range
 unfoldable pub asked_by : CommandName → Values → Result Command Why
 asked_by command.Check v = and_then (check_by v) (λ q. Ok (checks q))
-asked_by command.Show v = Ok shows
+asked_by command.Route v = and_then (route_by v) (λ r. Ok (routes r))
+asked_by command.Show v = Ok (shows (record { fields = is_raised v Fields }))
 asked_by command.Make v = and_then (make_by v) (λ m. Ok (makes m))
 asked_by command.Replay v = and_then (replay_by v) (λ r. Ok (replays r))
 asked_by command.Serve v = and_then (serve_by v) (λ s. Ok (serves s))

@@ -9,7 +9,7 @@ use Rattle.hb_wire.specs.Message.{and_then}
 use Rattle.hb_words.specs.declared.fault.Why.{Why}
 use Rattle.hb_words.specs.declared.fault.Why.TheVariants.{Unknown, Spare, Twice, NoValue, Valued, BadValue, Missing, NotAccepted}
 use Rattle.hb_words.specs.declared.part.CommandName.{CommandName}
-use Rattle.hb_words.specs.declared.part.CommandName.TheVariants.{Check, Show, Make, Replay, Serve}
+use Rattle.hb_words.specs.declared.part.CommandName.TheVariants.{Check, Route, Show, Make, Replay, Serve}
 use Rattle.hb_words.specs.declared.part.PartName.{PartName}
 use Rattle.hb_words.specs.declared.part.PartName.TheVariants.{Node, Id, Discovery}
 use Rattle.hb_words.specs.declared.why.Stand.{Stand}
@@ -88,6 +88,7 @@ missing_run_option words =
 
 abbrev pub missing_option : CommandName → List (List ℕ) → Option PartName
 missing_option Check words = if not (is_there (codes "--node") words) then Some Node else None
+missing_option Route words = if not (is_there (codes "--node") words) then Some Node else None
 missing_option Show words = None
 missing_option Make words = None
 missing_option Replay words = missing_run_option words

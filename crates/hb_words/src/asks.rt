@@ -1,7 +1,7 @@
 //! What the words ask for.
 
 use crate::page::Page;
-use hb_base::{Peer, Target};
+use hb_base::{Ip, Peer, Target};
 
 /// What `check` asks: is this peer admitted at this target of this node of this network?
 #[derive(Drop)]
@@ -11,6 +11,28 @@ pub struct Check<'a> {
     pub network: &'a str,
     pub peer: Peer,
     pub target: Target,
+    /// Whether the policies that count are told, too.
+    pub explain: bool,
+}
+
+/// What `route` asks: which way does a connection of this workload of this node of this network take to this target?
+#[derive(Clone, Copy)]
+pub struct Route<'a> {
+    pub node: &'a str,
+    /// Empty where it isn't named.
+    pub network: &'a str,
+    /// From 1 to 65,535.
+    pub hbone_port: u16,
+    /// The workload's address.
+    pub source: Ip,
+    pub target: Target,
+}
+
+/// What `show` asks: what the node holds.
+#[derive(Clone, Copy)]
+pub struct Show {
+    /// Whether the fields of each record are told, too.
+    pub fields: bool,
 }
 
 /// What a run of the proxy is asked, over a script or over real sockets.
@@ -68,7 +90,8 @@ pub struct Make {
 #[derive(Drop)]
 pub enum Command<'a> {
     Check(Check<'a>),
-    Show,
+    Route(Route<'a>),
+    Show(Show),
     Replay(Replay<'a>),
     Serve(Serve<'a>),
     Make(Make),

@@ -10,20 +10,31 @@ use hb_options::{Declaration, Part, read};
 use std::alloc::{AllocError, Global};
 
 /// The commands, and what each declares.
-static COMMANDS: [Declaration<'static>; 5] = [
+static COMMANDS: [Declaration<'static>; 6] = [
     Declaration {
         name: "check",
         parts: &[
             Part::Valued("node", true),
             Part::Valued("network", false),
+            Part::Flag("explain"),
             Part::Place("SOURCE", true),
             Part::Place("IDENTITY", true),
             Part::Place("TARGET", true),
         ],
     },
     Declaration {
+        name: "route",
+        parts: &[
+            Part::Valued("node", true),
+            Part::Valued("network", false),
+            Part::Valued("hbone-port", false),
+            Part::Place("SOURCE", true),
+            Part::Place("TARGET", true),
+        ],
+    },
+    Declaration {
         name: "show",
-        parts: &[],
+        parts: &[Part::Flag("fields")],
     },
     Declaration {
         name: "make",

@@ -12,7 +12,7 @@ mod values;
 mod why;
 mod words;
 
-pub use asks::{Check, Command, Make, Replay, RunWords, Serve};
+pub use asks::{Check, Command, Make, Replay, Route, RunWords, Serve, Show};
 pub use fault::{Why, WordsFault};
 pub use laws::{
     each_part_has_its_line, other_words_ask_for_no_page, words_are_read_as_they_are_spelled,

@@ -24,21 +24,33 @@ pub enum Page {
 }
 
 /// The commands, in the order of their lines.
-static COMMANDS: [CommandName; 5] = [
+static COMMANDS: [CommandName; 6] = [
     CommandName::Check,
+    CommandName::Route,
     CommandName::Show,
     CommandName::Make,
     CommandName::Replay,
     CommandName::Serve,
 ];
 
-static CHECK_PARTS: [PartName; 5] = [
+static CHECK_PARTS: [PartName; 6] = [
     PartName::Node,
     PartName::Network,
+    PartName::Explain,
     PartName::Source,
     PartName::Identity,
     PartName::Target,
 ];
+
+static ROUTE_PARTS: [PartName; 5] = [
+    PartName::Node,
+    PartName::Network,
+    PartName::HbonePort,
+    PartName::Source,
+    PartName::Target,
+];
+
+static SHOW_PARTS: [PartName; 1] = [PartName::Fields];
 
 static MAKE_PARTS: [PartName; 2] = [PartName::Count, PartName::Run];
 
@@ -115,9 +127,12 @@ impl CommandName {
     {
         match self {
             CommandName::Check => {
-                "hbone check --node NODE [--network NETWORK] SOURCE IDENTITY TARGET"
+                "hbone check --node NODE [--network NETWORK] [--explain] SOURCE IDENTITY TARGET"
             }
-            CommandName::Show => "hbone show",
+            CommandName::Route => {
+                "hbone route --node NODE [--network NETWORK] [--hbone-port PORT] SOURCE TARGET"
+            }
+            CommandName::Show => "hbone show [--fields]",
             CommandName::Make => "hbone make N [--run]",
             CommandName::Replay => {
                 "hbone replay --node NODE --id ID --discovery TARGET [OPTION ..]"
@@ -133,6 +148,10 @@ impl CommandName {
         match self {
             CommandName::Check => {
                 "Tells whether a peer may connect to an address and port, \
+                 by the discovery responses on standard input."
+            }
+            CommandName::Route => {
+                "Tells which way a connection to an address and port takes, \
                  by the discovery responses on standard input."
             }
             CommandName::Show => {
@@ -158,6 +177,7 @@ impl CommandName {
     {
         match self {
             CommandName::Check => "  check       ",
+            CommandName::Route => "  route       ",
             CommandName::Show => "  show        ",
             CommandName::Make => "  make        ",
             CommandName::Replay => "  replay      ",
@@ -171,7 +191,8 @@ impl CommandName {
     {
         match self {
             CommandName::Check => CHECK_PARTS.as_slice(),
-            CommandName::Show => &[],
+            CommandName::Route => ROUTE_PARTS.as_slice(),
+            CommandName::Show => SHOW_PARTS.as_slice(),
             CommandName::Make => MAKE_PARTS.as_slice(),
             CommandName::Replay => REPLAY_PARTS.as_slice(),
             CommandName::Serve => SERVE_PARTS.as_slice(),
@@ -189,7 +210,8 @@ impl PartName {
             PartName::Network => {
                 "  --network NETWORK     the node's network; without it the one whose name is empty\n"
             }
-            PartName::Source => "  SOURCE                the peer's address\n",
+            PartName::Explain => "  --explain             tells each policy that counts, too\n",
+            PartName::Source => "  SOURCE                the address that connects\n",
             PartName::Identity => {
                 "  IDENTITY              none, or spiffe://TRUST_DOMAIN/ns/NAMESPACE/sa/SERVICE_ACCOUNT\n"
             }
@@ -225,6 +247,9 @@ impl PartName {
             }
             PartName::StopOnInput => {
                 "  --stop-on-input       ends the run where standard input ends or has a byte\n"
+            }
+            PartName::Fields => {
+                "  --fields              tells the fields of each resource held, too\n"
             }
             PartName::Trace => "  --trace               tells each call on a socket, too\n",
             PartName::Brief => "  --brief               tells the totals alone\n",

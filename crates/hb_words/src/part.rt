@@ -2,12 +2,13 @@
 
 ghost use Rattle.std.specs.Prelude.{◌≡◌};
 ghost use Rattle.hb_words.specs.Grammar.{command_text};
-ghost use Rattle.hb_words.specs.Part.{command_named, id_text, dashes, is_run_option, has, is_flag, any_option, other_option, part_of, places_of};
+ghost use Rattle.hb_words.specs.Part.{command_named, id_text, dashes, is_run_option, has, is_flag, any_option, other_option, any_flag, part_of, places_of};
 
 /// The commands.
 #[derive(Clone, Copy)]
 pub enum CommandName {
     Check,
+    Route,
     Show,
     Make,
     /// Runs the proxy over a script.
@@ -21,9 +22,11 @@ pub enum CommandName {
 pub enum PartName {
     Node,
     Network,
+    Explain,
     Source,
     Identity,
     Target,
+    Fields,
     Id,
     Discovery,
     Inbound,
@@ -43,6 +46,8 @@ pub enum PartName {
 
 static CHECK_PLACES: [PartName; 3] = [PartName::Source, PartName::Identity, PartName::Target];
 
+static ROUTE_PLACES: [PartName; 2] = [PartName::Source, PartName::Target];
+
 static MAKE_PLACES: [PartName; 1] = [PartName::Count];
 
 /// The command that a word names.
@@ -51,6 +56,9 @@ pub(crate) fn command_named(word: &str) -> Option<CommandName>
 {
     if word == "check" {
         return Some(CommandName::Check);
+    }
+    if word == "route" {
+        return Some(CommandName::Route);
     }
     if word == "show" {
         return Some(CommandName::Show);
@@ -67,7 +75,7 @@ pub(crate) fn command_named(word: &str) -> Option<CommandName>
     None
 }
 
-/// An option of `check`, or of both commands that run the proxy.
+/// An option of the commands that run the proxy, of which some are those of `check` and `route`.
 fn any_option(name: &str) -> Option<PartName>
     ensures { result ≡ any_option name.now }
 {
@@ -95,7 +103,7 @@ fn any_option(name: &str) -> Option<PartName>
     other_option(name)
 }
 
-/// Any other option or flag.
+/// Any other option, or a flag.
 fn other_option(name: &str) -> Option<PartName>
     ensures { result ≡ other_option name.now }
 {
@@ -110,6 +118,18 @@ fn other_option(name: &str) -> Option<PartName>
     }
     if name == "--ticks" {
         return Some(PartName::Ticks);
+    }
+    any_flag(name)
+}
+
+fn any_flag(name: &str) -> Option<PartName>
+    ensures { result ≡ any_flag name.now }
+{
+    if name == "--explain" {
+        return Some(PartName::Explain);
+    }
+    if name == "--fields" {
+        return Some(PartName::Fields);
     }
     if name == "--stop-on-input" {
         return Some(PartName::StopOnInput);
@@ -134,9 +154,11 @@ impl PartName {
         match self {
             PartName::Node => "node",
             PartName::Network => "network",
+            PartName::Explain => "explain",
             PartName::Source => "SOURCE",
             PartName::Identity => "IDENTITY",
             PartName::Target => "TARGET",
+            PartName::Fields => "fields",
             PartName::Id => "id",
             PartName::Discovery => "discovery",
             PartName::Inbound => "inbound",
@@ -188,7 +210,12 @@ impl PartName {
     {
         matches!(
             self,
-            PartName::StopOnInput | PartName::Trace | PartName::Brief | PartName::Run
+            PartName::Explain
+                | PartName::Fields
+                | PartName::StopOnInput
+                | PartName::Trace
+                | PartName::Brief
+                | PartName::Run
         )
     }
 }
@@ -200,6 +227,7 @@ impl CommandName {
     {
         match self {
             CommandName::Check => "check",
+            CommandName::Route => "route",
             CommandName::Show => "show",
             CommandName::Make => "make",
             CommandName::Replay => "replay",
@@ -212,8 +240,16 @@ impl CommandName {
         ensures { result ≡ has self part }
     {
         match self {
-            CommandName::Check => matches!(part, PartName::Node | PartName::Network),
-            CommandName::Show => false,
+            CommandName::Check => {
+                matches!(part, PartName::Node | PartName::Network | PartName::Explain)
+            }
+            CommandName::Route => {
+                matches!(
+                    part,
+                    PartName::Node | PartName::Network | PartName::HbonePort
+                )
+            }
+            CommandName::Show => matches!(part, PartName::Fields),
             CommandName::Make => matches!(part, PartName::Run),
             CommandName::Replay => {
                 part.is_run_option() || matches!(part, PartName::Trace | PartName::Brief)
@@ -240,6 +276,7 @@ impl CommandName {
     {
         match self {
             CommandName::Check => CHECK_PLACES.as_slice(),
+            CommandName::Route => ROUTE_PLACES.as_slice(),
             CommandName::Make => MAKE_PLACES.as_slice(),
             _ => &[],
         }

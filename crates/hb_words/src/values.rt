@@ -3,17 +3,17 @@
 ghost use Rattle.std.specs.Prelude.{◌≡◌, ◌≤◌, IfOk, IfSome};
 ghost use Rattle.clap.specs.Words.{first_value, found_of};
 ghost use Rattle.hb_base.specs.Outcome.{Answers};
-ghost use Rattle.hb_words.specs.Asked.{asked, command_of, commanded};
+ghost use Rattle.hb_words.specs.Asked.{asked, route_answer, command_of, commanded};
 ghost use Rattle.hb_words.specs.AskedRun.{run_answer, replay_answer, serve_answer};
 ghost use Rattle.hb_words.specs.Make.{most_tunnels, IsInRange};
-ghost use Rattle.hb_words.specs.Values.{text_in, is_raised, wanted_target, target_in, number_in, number_or, identity_or_none, check_by, make_by, run_by, replay_by, serve_by, asked_by};
+ghost use Rattle.hb_words.specs.Values.{text_in, is_raised, wanted_target, target_in, number_in, number_or, source_in, place_target, identity_or_none, check_by, route_by, make_by, run_by, replay_by, serve_by, asked_by};
 
-use crate::asks::{Check, Command, Make, Replay, RunWords, Serve};
+use crate::asks::{Check, Command, Make, Replay, Route, RunWords, Serve, Show};
 use crate::fault::Why;
 use crate::number::read_number;
 use crate::part::{CommandName, PartName};
 use clap::ArgMatches;
-use hb_base::{Identity, Or, Peer, Target, read_identity, read_ip, read_target};
+use hb_base::{Identity, Ip, Or, Peer, Target, read_identity, read_ip, read_target};
 use std::alloc::Global;
 
 /// A value that is there where words are accepted, or that is empty where it isn't.
@@ -77,6 +77,26 @@ fn number_or(values: &ArgMatches<'_>, part: PartName, most: u16, other: u16) -> 
     }
 }
 
+/// The address in the place of SOURCE.
+fn source(values: &ArgMatches<'_>) -> Result<Ip, Why>
+    ensures { result ≡ source_in (first_value (found_of values.now)) }
+{
+    match read_ip(text(values, PartName::Source).as_bytes()) {
+        Some(ip) => Ok(ip),
+        None => Err(Why::BadValue(PartName::Source)),
+    }
+}
+
+/// The address and port in the place of TARGET.
+fn place_target(values: &ArgMatches<'_>) -> Result<Target, Why>
+    ensures { result ≡ place_target (first_value (found_of values.now)) }
+{
+    match read_target(text(values, PartName::Target).as_bytes()) {
+        Ok(target) => Ok(target),
+        Err(fault) => Err(Why::BadTarget(fault)),
+    }
+}
+
 /// `none`, or the text of an identity.
 fn identity_or_none(alloc: Global, text: &str) -> Result<Option<Identity>, Or<Why>>
     ensures { Answers result (identity_or_none text.now) }
@@ -94,19 +114,34 @@ fn identity_or_none(alloc: Global, text: &str) -> Result<Option<Identity>, Or<Wh
 fn check<'a>(alloc: Global, values: &ArgMatches<'a>) -> Result<Check<'a>, Or<Why>>
     ensures { Answers (asked result) (check_by (first_value (found_of values.now))) }
 {
-    let Some(ip) = read_ip(text(values, PartName::Source).as_bytes()) else {
-        return Err(Or::Fault(Why::BadValue(PartName::Source)));
+    let ip = match source(values) {
+        Ok(ip) => ip,
+        Err(why) => return Err(Or::Fault(why)),
     };
     let identity = identity_or_none(alloc, text(values, PartName::Identity))?;
-    let target = match read_target(text(values, PartName::Target).as_bytes()) {
+    let target = match place_target(values) {
         Ok(target) => target,
-        Err(fault) => return Err(Or::Fault(Why::BadTarget(fault))),
+        Err(why) => return Err(Or::Fault(why)),
     };
     Ok(Check {
         node: text(values, PartName::Node),
         network: text(values, PartName::Network),
         peer: Peer { ip, identity },
         target,
+        explain: is_raised(values, PartName::Explain),
+    })
+}
+
+#[tactic(auto, unfolding(crate::specs::Values::route_by))]
+fn route<'a>(values: &ArgMatches<'a>) -> Result<Route<'a>, Why>
+    ensures { route_answer result ≡ route_by (first_value (found_of values.now)) }
+{
+    Ok(Route {
+        hbone_port: number_or(values, PartName::HbonePort, 65535, 15008)?,
+        source: source(values)?,
+        target: place_target(values)?,
+        node: text(values, PartName::Node),
+        network: text(values, PartName::Network),
     })
 }
 
@@ -183,7 +218,13 @@ pub(crate) fn asked_by<'a>(
 {
     match command {
         CommandName::Check => Ok(Command::Check(check(alloc, values)?)),
-        CommandName::Show => Ok(Command::Show),
+        CommandName::Route => match route(values) {
+            Ok(asked) => Ok(Command::Route(asked)),
+            Err(why) => Err(Or::Fault(why)),
+        },
+        CommandName::Show => Ok(Command::Show(Show {
+            fields: is_raised(values, PartName::Fields),
+        })),
         CommandName::Make => match make(values) {
             Ok(asked) => Ok(Command::Make(asked)),
             Err(why) => Err(Or::Fault(why)),

@@ -207,7 +207,7 @@ fn missing_option(command: CommandName, words: &[String]) -> Option<PartName>
     if !is_named("--node", words) {
         return Some(PartName::Node);
     }
-    if matches!(command, CommandName::Check) {
+    if matches!(command, CommandName::Check | CommandName::Route) {
         return None;
     }
     if !is_named("--id", words) {
