@@ -1,12 +1,10 @@
-use Rattle.std.proofs.Common.{◌≡◌, List, Option, Some, None, Result, Err, map, string_bytes, sym, subst, ap, ◌∙◌}
+use Rattle.std.proofs.Common.{Option, Err, map, string_bytes, sym, subst, ap, ◌∙◌}
 use Rattle.clap.specs.Matches.{first_value, found_of}
 use Rattle.clap.specs.declared.parser.matches.ArgMatches.{ArgMatches}
 use Rattle.hb_base.specs.Outcome.{Fails}
 use Rattle.hb_options.specs.Read.{Reads}
 use Rattle.hb_words.specs.declared.fault.Why.{Why}
-use Rattle.hb_words.specs.declared.fault.WordsFault.{WordsFault}
 use Rattle.hb_words.specs.declared.fault.WordsFault.TheVariants.{Behind}
-use Rattle.hb_words.specs.Command.{Command}
 use Rattle.hb_words.specs.Grammar.{commands}
 use Rattle.hb_words.specs.Values.{asked_by}
 use Rattle.hb_words.specs.Words.{or_behind}
