@@ -4,13 +4,15 @@ use Rattle.std.specs.Prelude.{IfOk, IsTrue}
 use Rattle.std.specs.Bool.{MatchBool}
 use Rattle.std.specs.Result.{MatchResult}
 use Rattle.hb_audit.specs.Tells.{Answering}
-use Rattle.hb_words.specs.Command.{Command, Replay, checks, shows, replays, serves, makes, prints}
+use Rattle.hb_words.specs.Command.{Command, Replay, Route, checks, routes, shows, replays, serves, makes, prints}
+use Rattle.hb_words.specs.declared.asks.Show.{Show}
 use Rattle.hb_words.specs.declared.fault.WordsFault.{WordsFault}
 use Rattle.hb_cli.specs.Replaying.{RunState, done_in, DoneLawfully}
 use Rattle.hb_turns.specs.Notes.{held}
 use Rattle.hb_cli.specs.declared.answer.Answer.{Answer}
-use Rattle.hb_cli.specs.declared.answer.Answer.TheVariants.{Judged, Left, Replayed}
+use Rattle.hb_cli.specs.declared.answer.Answer.TheVariants.{Judged, Told, Left, Replayed}
 use Rattle.hb_cli.specs.declared.answer.Printed.{Printed}
+use Rattle.hb_cli.specs.declared.ended.ReplayEnd.TheVariants as ends
 use Rattle.hb_cli.specs.declared.answer.Printed.TheVariants.{NoMemory as Short}
 use Rattle.hb_cli.specs.declared.stop.Stop.{Stop}
 use Rattle.hb_cli.specs.declared.stop.Stop.TheVariants.{Words, TooLong, Refused, ReadFault, NoMemory}
@@ -38,7 +40,8 @@ pub none_broken : {A : Type 0} {own : Answering A} (asked : Result Command Words
     → r.before.script.trace ≡ [] → Unused r.world
     → BreaksOff asked r
 none_broken (Ok (checks q)) r left none unused = tt
-none_broken (Ok shows) r left none unused = tt
+none_broken (Ok (routes w)) r left none unused = tt
+none_broken (Ok (shows s)) r left none unused = tt
 none_broken (Ok (replays p)) r left none unused = inl (ap (λ (s : RunState). s.script.trace) left ∙ none)
 none_broken (Ok (serves s)) r left none unused = inl unused
 none_broken (Ok (makes m)) r left none unused = by_run m.run where
@@ -57,7 +60,8 @@ module _ {A : Type 0} {own : Answering A} (input out err : Use) (w : WorldUse ow
   stays_by : (c : Command) (result : Result Answer Stop) → LeavesBy c input.bytes before left result
       → HearsBy c w.heard (held left.keep) result → NoneFalls input out err → Stays (run_of c)
   stays_by (checks q) result leaves hears later = stays_still (run_of (checks q)) leaves hears later
-  stays_by shows result leaves hears later = stays_still (run_of shows) leaves hears later
+  stays_by (routes w) result leaves hears later = stays_still (run_of (routes w)) leaves hears later
+  stays_by (shows s) result leaves hears later = stays_still (run_of (shows s)) leaves hears later
   stays_by (replays p) result leaves hears later = record {
     idle = λ never none. absurd (never p refl);
     untold = λ takes never. absurd (never p refl);
@@ -81,7 +85,8 @@ module _ {A : Type 0} {own : Answering A} (input out err : Use) (w : WorldUse ow
   does_nothing : (c : Command) (stop : Stop) → before.script.trace ≡ [] → stop ≢ NoMemory → LeavesBy c input.bytes before left (Err stop)
       → HearsBy c w.heard (held left.keep) (Err stop) → DoesNothing (run_of c)
   does_nothing (checks q) stop none other leaves hears = (ap (λ (s : RunState). s.script.trace) leaves ∙ none, hears)
-  does_nothing shows stop none other leaves hears = (ap (λ (s : RunState). s.script.trace) leaves ∙ none, hears)
+  does_nothing (routes w) stop none other leaves hears = (ap (λ (s : RunState). s.script.trace) leaves ∙ none, hears)
+  does_nothing (shows w) stop none other leaves hears = (ap (λ (s : RunState). s.script.trace) leaves ∙ none, hears)
   does_nothing (replays p) stop none other leaves hears = replay_idle p stop other leaves hears
   does_nothing (serves s) stop none other leaves hears = (ap (λ (s : RunState). s.script.trace) leaves ∙ none, hears)
   does_nothing (makes m) stop none other leaves hears = (ap (λ (s : RunState). s.script.trace) leaves ∙ none, hears)
@@ -97,37 +102,58 @@ module _ {A : Type 0} {own : Answering A} (input out err : Use) (w : WorldUse ow
   broken : (c : Command) (stop : Stop) → IsTrue (takes_input (Ok c)) → LeavesBy c input.bytes before left (Err stop)
       → BreaksOff (Ok c) (run_of c)
   broken (checks q) stop takes leaves = tt
-  broken shows stop takes leaves = tt
+  broken (routes w) stop takes leaves = tt
+  broken (shows s) stop takes leaves = tt
   broken (replays p) stop takes leaves = replay_broken p stop leaves
   broken (serves s) stop takes leaves = absurd cc
   broken (makes m) stop takes leaves = absurd cc
   broken (prints p) stop takes leaves = absurd cc
+
+  -- no run of the proxy stands behind these
+  ends_routed : {w : Route} (a : Answer) → Suits (routes w) a → end_of a ≡ ends.Stopped
+  ends_routed (Judged judged) suits = refl
+  ends_routed (Told text) suits = refl
+  ends_routed (Left l fields) suits = refl
+  ends_routed (Replayed told) suits = absurd suits
+
+  ends_shown : {s : Show} (a : Answer) → Suits (shows s) a → end_of a ≡ ends.Stopped
+  ends_shown (Judged judged) suits = refl
+  ends_shown (Told text) suits = refl
+  ends_shown (Left l fields) suits = refl
+  ends_shown (Replayed told) suits = absurd suits
 
   -- the answer is one of the command
   gives : (c : Command) (a : Answer) → Suits c a → LooksAt (Ok c) (done_in left) input (Ok (answer_text a))
       → LeavesBy c input.bytes before left (Ok a) → HearsBy c w.heard (held left.keep) (Ok a)
       → Gives c (run_of c) (end_of a) (answer_text a)
   gives (checks q) (Judged judged) suits looks leaves hears = (refl, looks)
-  gives (checks q) (Left l) suits looks leaves hears = absurd suits
+  gives (checks q) (Told text) suits looks leaves hears = (refl, looks)
+  gives (checks q) (Left l fields) suits looks leaves hears = absurd suits
   gives (checks q) (Replayed told) suits looks leaves hears = absurd suits
-  gives shows (Judged judged) suits looks leaves hears = absurd suits
-  gives shows (Left l) suits looks leaves hears = (refl, looks)
-  gives shows (Replayed told) suits looks leaves hears = absurd suits
+  gives (routes w) a suits looks leaves hears = (ends_routed a suits, looks)
+  gives (shows s) a suits looks leaves hears = (ends_shown a suits, looks)
   gives (replays p) (Judged judged) suits looks leaves hears = absurd suits
-  gives (replays p) (Left l) suits looks leaves hears = absurd suits
+  gives (replays p) (Told text) suits looks leaves hears = absurd suits
+  gives (replays p) (Left l fields) suits looks leaves hears = absurd suits
   gives (replays p) (Replayed told) suits looks leaves hears = (looks, leaves, hears)
   gives (serves s) a suits looks leaves hears = absurd suits
   gives (makes m) a suits looks leaves hears = absurd suits
   gives (prints p) a suits looks leaves hears = absurd suits
 
   -- memory lacked while it was printed, so it is one of `show`
-  is_shown : (c : Command) (a : Answer) → (IsMade a → ⊥) → Suits c a → c ≡ shows
+  is_shown : (c : Command) (a : Answer) → (IsMade a → ⊥) → Suits c a → (s : Show) × (c ≡ shows s)
   is_shown (checks q) (Judged judged) lacks suits = absurd (lacks tt)
-  is_shown (checks q) (Left l) lacks suits = absurd suits
+  is_shown (checks q) (Told text) lacks suits = absurd (lacks tt)
+  is_shown (checks q) (Left l fields) lacks suits = absurd suits
   is_shown (checks q) (Replayed told) lacks suits = absurd suits
-  is_shown shows a lacks suits = refl
+  is_shown (routes w) (Judged judged) lacks suits = absurd suits
+  is_shown (routes w) (Told text) lacks suits = absurd (lacks tt)
+  is_shown (routes w) (Left l fields) lacks suits = absurd suits
+  is_shown (routes w) (Replayed told) lacks suits = absurd suits
+  is_shown (shows s) a lacks suits = (s, refl)
   is_shown (replays p) (Judged judged) lacks suits = absurd suits
-  is_shown (replays p) (Left l) lacks suits = absurd suits
+  is_shown (replays p) (Told text) lacks suits = absurd suits
+  is_shown (replays p) (Left l fields) lacks suits = absurd suits
   is_shown (replays p) (Replayed told) lacks suits = absurd (lacks tt)
   is_shown (serves s) a lacks suits = absurd suits
   is_shown (makes m) a lacks suits = absurd suits
@@ -183,9 +209,9 @@ module _ {A : Type 0} {own : Answering A} (input out err : Use) (w : WorldUse ow
           let shown = is_shown c a (λ is. made is short) suits in
           ends_at (run_of c) 9 status nine (stays_by c (Ok a) leaves hears later) (
             looks.4,
-            inr (answer_text a, ap Ok shown, looks, subst (Prints out (answer_text a)) short written),
+            inr (answer_text a, shown.0, ap Ok shown.1, looks, subst (Prints out (answer_text a)) short written),
             told,
-            subst (λ (d : Command). BreaksOff (Ok d) (run_of c)) (sym shown) tt,
+            subst (λ (d : Command). BreaksOff (Ok d) (run_of c)) (sym shown.1) tt,
           )
 
 -- words that aren't accepted: that was told, and nothing was done

@@ -4,7 +4,7 @@ use Rattle.std.proofs.lemmas.Bool.Decides.{nat_tests}
 use Rattle.std.specs.Bool.{MatchBool}
 use Rattle.std.specs.Prelude.{◌⊎◌, IsOk, IsErr, IsTrue}
 use Rattle.hb_audit.specs.Tells.{Answering}
-use Rattle.hb_words.specs.Command.{Command, Replay, checks, shows, replays, serves, makes, prints}
+use Rattle.hb_words.specs.Command.{Command, Replay, checks, routes, shows, replays, serves, makes, prints}
 use Rattle.hb_words.specs.declared.fault.WordsFault.{WordsFault}
 use Rattle.hb_cli.specs.Replaying.{RunState}
 use Rattle.hb_cli.specs.declared.ended.ReplayEnd.{ReplayEnd}
@@ -137,7 +137,8 @@ module _ {A : Type 0} {own : Answering A} (r : Run own) (end : ReplayEnd) (text 
   reads_well a = of_command a.0 a.2 where
     of_command : (c : Command) → Gives c r end text → NoFault r.input
     of_command (checks q) g = g.1.4
-    of_command shows g = g.1.4
+    of_command (routes w) g = g.1.4
+    of_command (shows s) g = g.1.4
     of_command (replays p) g = g.0.4
     of_command (serves s) g = g.0.1
     of_command (makes m) g = g.0.1
@@ -149,7 +150,8 @@ module _ {A : Type 0} {own : Answering A} (r : Run own) (end : ReplayEnd) (text 
     outcome_is a = of_command a.0 a.1 a.2 where
       of_command : (c : Command) → r.asked ≡ Ok c → Gives c r end text → HasOutcome r (Ok text)
       of_command (checks q) asks g = g.1
-      of_command shows asks g = g.1
+      of_command (routes w) asks g = g.1
+      of_command (shows s) asks g = g.1
       of_command (replays p) asks g = g.0
       of_command (serves s) asks g = absurd (takes_none r.asked (serves s) refl asks takes)
       of_command (makes m) asks g = absurd (takes_none r.asked (makes m) refl asks takes)
@@ -160,7 +162,8 @@ module _ {A : Type 0} {own : Answering A} (r : Run own) (end : ReplayEnd) (text 
     is_replay other a = of_command a.0 a.1 a.2 where
       of_command : (c : Command) → r.asked ≡ Ok c → Gives c r end text → (p : Replay) × (r.asked ≡ Ok (replays p))
       of_command (checks q) asks g = absurd (other g.0)
-      of_command shows asks g = absurd (other g.0)
+      of_command (routes w) asks g = absurd (other g.0)
+      of_command (shows s) asks g = absurd (other g.0)
       of_command (replays p) asks g = (p, asks)
       of_command (serves s) asks g = absurd (takes_none r.asked (serves s) refl asks takes)
       of_command (makes m) asks g = absurd (takes_none r.asked (makes m) refl asks takes)

@@ -1,5 +1,6 @@
 pub mod Concluding
 pub mod Endings
+pub mod Explaining
 pub mod Inputs
 pub mod Keeping
 pub mod Makes

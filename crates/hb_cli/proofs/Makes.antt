@@ -98,7 +98,7 @@ module _ {A : Type 0} {own : Answering A} (m : Make) (r : Run own) (asks : r.ask
   lacks : Wanting r → Lacks r.out r.err
   lacks a = (
     ⊎_elim (λ (quiet : Untouched r.out). quiet)
-        (λ (part : ShownInPart r). let other = same_command r.asked (makes m) shows asks part.1 in absurd cc) a.1,
+        (λ (part : ShownInPart r). let other = same_command r.asked (makes m) (shows part.1) asks part.2 in absurd cc) a.1,
     a.2,
   )
 

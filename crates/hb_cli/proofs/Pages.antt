@@ -60,7 +60,7 @@ module _ {A : Type 0} {own : Answering A} (p : Page) (r : Run own) (asks : r.ask
       let b : BreaksOff (Ok (prints p)) r = subst (λ asked. BreaksOff asked r) asks a.3 in
       let quiet =
       ⊎_elim (λ (still : Untouched r.out). still)
-      (λ (shown : ShownInPart r). let other = same_command r.asked (prints p) shows asks shown.1 in absurd cc) a.1 in
+      (λ (shown : ShownInPart r). let other = same_command r.asked (prints p) (shows shown.1) asks shown.2 in absurd cc) a.1 in
       (b.0, b.1, (quiet, a.2))
 
   pub pages_at : (status : ℕ) → EndsWith r status → PagesAt p r.world.heard r.before r.left r.out r.err status

@@ -1,16 +1,15 @@
 -- Texts that are printed one after the other.
-use Rattle.std.proofs.Common.{◌≡◌, ◌≢◌, ℕ, ◌+◌, ◌≤◌, List, ◌++◌, length, take, Option, refl, ap, sym, subst, ◌∙◌, arith, length-append, append_assoc, ◌∷◌}
+use Rattle.std.proofs.Common.{◌≡◌, ◌≢◌, ℕ, Bool, ◌+◌, ◌≤◌, List, ◌++◌, length, take, Option, refl, ap, sym, subst, ◌∙◌, arith, length-append, append_assoc, ◌∷◌}
 use Rattle.std.proofs.KnownBytes.{Appends-trans}
 use Rattle.std.proofs.lemmas.List.{take-append-le}
 use Rattle.std.proofs.Math.Seq.{take-append-add, take-append_seam}
 use Rattle.std.specs.Io.KnownBytes.{Appends}
 use Rattle.std.specs.List.{flat_map}
 use Rattle.hb_held.specs.Rows.{Row, rows}
-use Rattle.hb_lines.specs.Row.{row_text}
 use Rattle.hb_cli.specs.declared.answer.Printed.{Printed}
 use Rattle.hb_cli.specs.declared.answer.Printed.TheVariants.{Whole, Failed, NoMemory}
 use Rattle.hb_cli.specs.Input.{Leaves}
-use Rattle.hb_cli.specs.Run.{shown}
+use Rattle.hb_cli.specs.Run.{held_line, shown}
 use Rattle.hb_cli.specs.Use.{use_of, WritesAll, Prints}
 
 -- a front of a text behind what is there whole
@@ -64,26 +63,28 @@ stops a b f g front rest total w is =
     let same : take (length front) total ≡ front = ap (take (length front)) (sym is) ∙ take-append_seam front rest in
     ((length front, len, subst (λ (t : List ℕ). Appends a b t) (sym same) w.0), w.1)
 
--- the line of the next row is behind those so far, and the lines of the others come behind it
-pub next_row : (front line : List ℕ) (row : Row) (left more : List Row) (total : List ℕ) → line ≡ row_text row → left ≡ row ∷ more
-    → front ++ flat_map row_text left ≡ total → (front ++ line) ++ flat_map row_text more ≡ total
-next_row front line row left more total is step so_far =
-    append_assoc front line (flat_map row_text more) ∙ ap (λ t. front ++ (t ++ flat_map row_text more)) is
-    ∙ ap (λ l. front ++ flat_map row_text l) (sym step) ∙ so_far
+-- the line of the next item is behind those so far, and the lines of the others come behind it
+pub next_line : {X : Type 0} (text : X → List ℕ) (front line : List ℕ) (x : X) (left more : List X) (total : List ℕ) → line ≡ text x
+    → left ≡ x ∷ more → front ++ flat_map text left ≡ total → (front ++ line) ++ flat_map text more ≡ total
+next_line text front line x left more total is step so_far =
+    append_assoc front line (flat_map text more) ∙ ap (λ t. front ++ (t ++ flat_map text more)) is
+    ∙ ap (λ l. front ++ flat_map text l) (sym step) ∙ so_far
 
 -- a row's line was printed in part
-pub row_in_part : (a b c : Option (List ℕ)) (f g h : ℕ) (front line : List ℕ) (row : Row) (left more : List Row) (total : List ℕ)
-    (r : Printed) → r ≢ Whole → WritesAll (use_of a b f g) front → Prints (use_of b c g h) line r → line ≡ row_text row
-    → left ≡ row ∷ more → front ++ flat_map row_text left ≡ total → Prints (use_of a c f h) total r
-row_in_part a b c f g h front line row left more total r part first then is step so_far =
-    subst (λ (t : List ℕ). Prints (use_of a c f h) t r) (next_row front line row left more total is step so_far)
-    (prints_part a c f h (front ++ line) (flat_map row_text more) r part (prints_on a b c f g h front line r first then))
+pub row_in_part : (fields : Bool) (a b c : Option (List ℕ)) (f g h : ℕ) (front line : List ℕ) (row : Row) (left more : List Row)
+    (total : List ℕ) (r : Printed) → r ≢ Whole → WritesAll (use_of a b f g) front → Prints (use_of b c g h) line r
+    → line ≡ held_line fields row → left ≡ row ∷ more → front ++ flat_map (held_line fields) left ≡ total
+    → Prints (use_of a c f h) total r
+row_in_part fields a b c f g h front line row left more total r part first then is step so_far =
+    subst (λ (t : List ℕ). Prints (use_of a c f h) t r)
+    (next_line (held_line fields) front line row left more total is step so_far)
+    (prints_part a c f h (front ++ line) (flat_map (held_line fields) more) r part (prints_on a b c f g h front line r first then))
 
 -- the lines of the responses were printed whole, and then those of what is held, as far as they were
-pub left_printed : (a b c : Option (List ℕ)) (f g h : ℕ) (told : List ℕ) (inside now : Leaves) (r : Printed) → inside ≡ now
-    → told ≡ inside.told → WritesAll (use_of a b f g) told → Prints (use_of b c g h) (flat_map row_text (rows inside.held)) r
-    → Prints (use_of a c f h) (shown now) r
-left_printed a b c f g h told inside now r same is first then =
-    subst (λ (l : Leaves). Prints (use_of a c f h) (shown l) r) same
-    (subst (λ (t : List ℕ). Prints (use_of a c f h) (t ++ flat_map row_text (rows inside.held)) r) is
-    (prints_on a b c f g h told (flat_map row_text (rows inside.held)) r first then))
+pub left_printed : (fields : Bool) (a b c : Option (List ℕ)) (f g h : ℕ) (told : List ℕ) (inside now : Leaves) (r : Printed)
+    → inside ≡ now → told ≡ inside.told → WritesAll (use_of a b f g) told
+    → Prints (use_of b c g h) (flat_map (held_line fields) (rows inside.held)) r → Prints (use_of a c f h) (shown fields now) r
+left_printed fields a b c f g h told inside now r same is first then =
+    subst (λ (l : Leaves). Prints (use_of a c f h) (shown fields l) r) same
+    (subst (λ (t : List ℕ). Prints (use_of a c f h) (t ++ flat_map (held_line fields) (rows inside.held)) r) is
+    (prints_on a b c f g h told (flat_map (held_line fields) (rows inside.held)) r first then))

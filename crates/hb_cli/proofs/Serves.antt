@@ -97,7 +97,7 @@ module _ {A : Type 0} {own : Answering A} (s : Serve) (r : Run own) (asks : r.as
   lacks_at a = (
     subst (λ asked. BreaksOff asked r) asks a.3,
     ⊎_elim (λ (quiet : Untouched r.out). quiet)
-        (λ (part : ShownInPart r). let other = same_command r.asked (serves s) shows asks part.1 in absurd cc) a.1,
+        (λ (part : ShownInPart r). let other = same_command r.asked (serves s) (shows part.1) asks part.2 in absurd cc) a.1,
     a.2,
   )
 

@@ -6,8 +6,9 @@ use Rattle.hb_report.specs.Total.{total_line}
 use Rattle.hb_turns.specs.Notes.{held}
 use Rattle.hb_turns.specs.declared.served.Served.{Served}
 use Rattle.hb_words.specs.declared.asks.Make.{Make}
+use Rattle.hb_words.specs.declared.asks.Show.{Show}
 use Rattle.hb_words.specs.declared.fault.WordsFault.{WordsFault}
-use Rattle.hb_words.specs.Command.{Command, Replay, Serve, checks, shows, replays, serves, makes, prints}
+use Rattle.hb_words.specs.Command.{Command, Replay, Serve, checks, routes, shows, replays, serves, makes, prints}
 use Rattle.hb_words.specs.Page.{page_text}
 use Rattle.hb_words.specs.declared.page.Page.{Page}
 use Rattle.hb_world.specs.Seen.{Seen}
@@ -65,7 +66,8 @@ PageGives p r end text = Untouched r.input × (end ≡ ends.Stopped) × RunsNoth
 
 abbrev pub Gives : {A : Type 0} {own : Answering A} → Command → Run own → ReplayEnd → List ℕ → Type 0
 Gives (checks q) r end text = (end ≡ ends.Stopped) × HasOutcome r (Ok text)
-Gives shows r end text = (end ≡ ends.Stopped) × HasOutcome r (Ok text)
+Gives (routes w) r end text = (end ≡ ends.Stopped) × HasOutcome r (Ok text)
+Gives (shows s) r end text = (end ≡ ends.Stopped) × HasOutcome r (Ok text)
 Gives (replays p) r end text = ReplayGives p r end text
 Gives (serves s) r end text = ServeGives s r end text
 Gives (makes m) r end text = MakeGives m r end text
@@ -119,7 +121,7 @@ Unwritten r =
 
 -- the answer of `show` is printed in part
 abbrev pub ShownInPart : {A : Type 0} {own : Answering A} → Run own → Type 0
-ShownInPart r = (text : List ℕ) × (r.asked ≡ Ok shows) × HasOutcome r (Ok text) × WritesSome r.out text
+ShownInPart r = (text : List ℕ) × (s : Show) × (r.asked ≡ Ok (shows s)) × HasOutcome r (Ok text) × WritesSome r.out text
 
 -- a run of the proxy that memory broke off is lawful
 abbrev pub BreaksOff : {A : Type 0} {own : Answering A} → Result Command WordsFault → Run own → Type 0

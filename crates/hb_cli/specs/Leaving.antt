@@ -9,7 +9,7 @@ use Rattle.hb_cli.specs.declared.ended.ReplayEnd.{ReplayEnd}
 use Rattle.hb_cli.specs.declared.ended.ReplayEnd.TheVariants as ends
 use Rattle.hb_cli.specs.Replaying.{RunState, done_in, IsRun, DoneLawfully}
 use Rattle.hb_cli.specs.declared.answer.Answer.{Answer}
-use Rattle.hb_cli.specs.declared.answer.Answer.TheVariants.{Judged, Left, Replayed}
+use Rattle.hb_cli.specs.declared.answer.Answer.TheVariants.{Judged, Told, Left, Replayed}
 use Rattle.hb_cli.specs.declared.input.Refused.{Refused}
 use Rattle.hb_cli.specs.declared.stop.Stop.{Stop}
 use Rattle.hb_cli.specs.declared.stop.Stop.TheVariants.{NoMemory}
@@ -54,5 +54,6 @@ EndsRun ends.TurnsSpent err status = (status ≡ 5) × Tells err turns_spent_lin
 -- how the run of the proxy ended behind an answer; where there was none, as if by a stop
 abbrev pub end_of : Answer → ReplayEnd
 end_of (Judged judged) = ends.Stopped
-end_of (Left left) = ends.Stopped
+end_of (Told text) = ends.Stopped
+end_of (Left left fields) = ends.Stopped
 end_of (Replayed told) = told.end

@@ -2,6 +2,7 @@ pub mod Answer
 pub mod Asked
 pub mod Ended
 pub mod Ending
+pub mod Explaining
 pub mod Hearing
 pub mod Input
 pub mod Judge

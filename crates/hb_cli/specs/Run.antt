@@ -4,7 +4,8 @@ use Rattle.std.specs.Io.KnownBytes.{Appends, Consumes}
 use Rattle.std.specs.List.{list_any, flat_map}
 use Rattle.std.specs.Option.{option_map}
 use Rattle.hb_base.specs.Count.{one_more}
-use Rattle.hb_held.specs.Rows.{rows}
+use Rattle.hb_held.specs.Rows.{Row, rows}
+use Rattle.hb_lines.specs.Fields.{fields_text}
 use Rattle.hb_lines.specs.Row.{row_text as held_text}
 use Rattle.hb_cli.specs.Replaying.{Done, report_of}
 use Rattle.hb_script.specs.declared.fault.ScriptFault.{ScriptFault}
@@ -13,32 +14,25 @@ use Rattle.hb_script.specs.declared.fault.ScriptWhy.TheVariants as row
 use Rattle.hb_script.specs.Script.{lines}
 use Rattle.hb_wire.specs.Message.{and_then}
 use Rattle.hb_words.specs.Fault.{fault_line}
-use Rattle.hb_words.specs.Command.{Command, checks, shows, replays, serves, makes, prints}
+use Rattle.hb_words.specs.Command.{Command, checks, routes, shows, replays, serves, makes, prints}
 use Rattle.hb_words.specs.declared.fault.WordsFault.{WordsFault}
 use Rattle.hb_cli.specs.declared.input.InputWhy.{InputWhy}
 use Rattle.hb_cli.specs.declared.input.InputWhy.TheVariants as why
 use Rattle.hb_cli.specs.declared.input.Refused.{Refused as Refusal}
 use Rattle.hb_cli.specs.declared.input.Refused.TheVariants.{Message, Line as BadLine}
-use Rattle.hb_table.specs.declared.judgement.Judged.{Judged}
-use Rattle.hb_table.specs.declared.judgement.Judged.TheVariants.{Admitted, Unknown, Denied}
 use Rattle.hb_cli.specs.declared.stop.Stop.{Stop}
 use Rattle.hb_cli.specs.declared.stop.Stop.TheVariants.{Words, TooLong, Refused, ReadFault, NoMemory}
 use Rattle.hb_cli.specs.Input.{longest_input, Leaves, left_by}
-use Rattle.hb_cli.specs.Judge.{judged_by}
+use Rattle.hb_cli.specs.Judge.{line, checked_by, routed_by}
 
--- a line of text
-abbrev pub line : List ℕ → List ℕ
-line text = text ++ 10 ∷ []
-
--- what `check` prints
-abbrev pub answer_line : Judged → List ℕ
-answer_line Admitted = line (codes "allow")
-answer_line Denied = line (codes "deny")
-answer_line Unknown = line (codes "unknown")
+-- the line of a resource held, with the fields of its record where they are asked for
+abbrev pub held_line : Bool → Row → List ℕ
+held_line true row = fields_text row
+held_line false row = held_text row
 
 -- what `show` prints: a line of each response, and then a line of each resource held, by kind and name
-abbrev pub shown : Leaves → List ℕ
-shown l = l.told ++ flat_map held_text (rows l.held)
+abbrev pub shown : Bool → Leaves → List ℕ
+shown fields l = l.told ++ flat_map (held_line fields) (rows l.held)
 
 abbrev pub or_words : Result Command WordsFault → Result Command Stop
 or_words (Ok c) = Ok c
@@ -56,8 +50,9 @@ or_line (Err fault) = Err (BadLine fault)
 -- the report of the done that it left, where each row of its input is a line. `serve`, `make` and a page, which read no input, print
 -- nothing by it.
 abbrev pub printed_by : Command → Done → List ℕ → Result (List ℕ) Refusal
-printed_by (checks q) done input = and_then (judged_by q input) (λ j. Ok (answer_line j))
-printed_by shows done input = and_then (left_by true [] [] input) (λ l. Ok (shown l))
+printed_by (checks q) done input = checked_by q input
+printed_by (routes r) done input = routed_by r input
+printed_by (shows s) done input = and_then (left_by true [] [] input) (λ l. Ok (shown s.fields l))
 printed_by (replays r) done input = and_then (or_line (lines input)) (λ script. Ok (report_of r done))
 printed_by (serves s) done input = Ok []
 printed_by (makes m) done input = Ok []

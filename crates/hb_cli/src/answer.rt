@@ -1,13 +1,13 @@
 //! What a command prints.
 
-ghost use Rattle.std.specs.Prelude.{◌≡◌, ◌≢◌, ◌≤◌, ◌++◌};
+ghost use Rattle.std.specs.Prelude.{◌≡◌, ◌≢◌, ◌≤◌, IfOk};
 ghost use Rattle.std.specs.List.{flat_map};
-ghost use Rattle.hb_held.specs.Rows.{rows};
-ghost use Rattle.hb_lines.specs.Row.{row_text};
+ghost use Rattle.hb_held.specs.Rows.{row_as, rows};
 ghost use Rattle.hb_cli.specs.Answer.{answer_text, IsMade};
 ghost use Rattle.hb_cli.specs.Leaving.{EndsRun, end_of};
 ghost use Rattle.hb_cli.specs.Printing.{PrintsAt};
-ghost use Rattle.hb_cli.specs.Run.{answer_line, shown};
+ghost use Rattle.hb_cli.specs.Judge.{answer_line};
+ghost use Rattle.hb_cli.specs.Run.{held_line, shown};
 ghost use Rattle.hb_cli.specs.Use.{Prints, used};
 ghost use Rattle.hb_cli.specs.declared.answer.Printed.TheVariants as printing;
 
@@ -15,17 +15,21 @@ use crate::ended::ReplayEnd;
 use crate::input::Left;
 use crate::replaying::Replayed;
 use crate::telling::tell;
-use hb_base::{Sink, put_all};
-use hb_held::Held;
-use hb_lines::row_line;
+use hb_base::{NoMemory, Sink, put_all};
+use hb_held::{Held, HeldRow};
+use hb_lines::{fields_line, row_line};
 use hb_table::Judged;
 use std::alloc::Global;
 
-/// The answer of a command: of `check`, of `show`, or of `replay`.
+/// The answer of a command.
 #[derive(Drop)]
 pub enum Answer {
+    /// Of `check`.
     Judged(Judged),
-    Left(Left),
+    /// The whole text: of `check --explain`, or of `route`.
+    Told(Vec<u8>),
+    /// Of `show`, with the fields of each record or without.
+    Left { left: Left, fields: bool },
     Replayed(Replayed),
 }
 
@@ -37,8 +41,8 @@ pub enum Printed {
     NoMemory,
 }
 
-/// What `check` prints.
-fn line_of(judged: Judged) -> &'static [u8]
+/// What `check` prints of an answer.
+pub fn line_of(judged: Judged) -> &'static [u8]
     ensures { result.now ≡ answer_line judged }
 {
     match judged {
@@ -72,14 +76,25 @@ pub fn print_whole<K: Sink, E: Sink>(text: &[u8], out: &mut K, err: &mut E) -> u
     }
 }
 
+/// The line of a resource held, with the fields of its record or without.
+fn held_line(alloc: Global, fields: bool, row: &HeldRow<'_>) -> Result<Vec<u8>, NoMemory>
+    ensures { IfOk result (λ line. line.items ≡ held_line fields (row_as row.now)) }
+{
+    if fields {
+        fields_line(alloc, row)
+    } else {
+        row_line(alloc, row)
+    }
+}
+
 /// Prints a line of each resource held, by kind and name.
-fn print_rows<K: Sink>(alloc: Global, held: &Held, out: &mut K) -> Printed
-    ensures printed { Prints (used K.written K.faults out.old out.new) (flat_map row_text (rows held.now)) result }
+fn print_rows<K: Sink>(alloc: Global, held: &Held, fields: bool, out: &mut K) -> Printed
+    ensures printed { Prints (used K.written K.faults out.old out.new) (flat_map (held_line fields) (rows held.now)) result }
     ensures later { K.faults out.old ≤ K.faults out.new }
 {
     let mut rows = held.rows();
     while let Some(row) = rows.next() {
-        let Ok(line) = row_line(alloc, &row) else {
+        let Ok(line) = held_line(alloc, fields, &row) else {
             return Printed::NoMemory;
         };
         match print_text(out, line.as_slice()) {
@@ -91,12 +106,12 @@ fn print_rows<K: Sink>(alloc: Global, held: &Held, out: &mut K) -> Printed
 }
 
 /// Prints the lines of the responses, and then those of the resources held.
-fn print_left<K: Sink>(alloc: Global, left: &Left, out: &mut K) -> Printed
-    ensures printed { Prints (used K.written K.faults out.old out.new) (shown left.now) result }
+fn print_left<K: Sink>(alloc: Global, left: &Left, fields: bool, out: &mut K) -> Printed
+    ensures printed { Prints (used K.written K.faults out.old out.new) (shown fields left.now) result }
     ensures later { K.faults out.old ≤ K.faults out.new }
 {
     match print_text(out, left.told.as_slice()) {
-        Printed::Whole => print_rows(alloc, &left.held, out),
+        Printed::Whole => print_rows(alloc, &left.held, fields, out),
         other => other,
     }
 }
@@ -109,7 +124,8 @@ pub fn print<K: Sink>(alloc: Global, answer: &Answer, out: &mut K) -> Printed
 {
     match answer {
         Answer::Judged(judged) => print_text(out, line_of(*judged)),
-        Answer::Left(left) => print_left(alloc, left, out),
+        Answer::Told(text) => print_text(out, text.as_slice()),
+        Answer::Left { left, fields } => print_left(alloc, left, *fields, out),
         Answer::Replayed(replayed) => print_text(out, replayed.report.as_slice()),
     }
 }
@@ -132,7 +148,7 @@ pub fn end<E: Sink>(answer: &Answer, err: &mut E) -> u8
     ensures later { E.faults err.old ≤ E.faults err.new }
 {
     match answer {
-        Answer::Judged(_) | Answer::Left(_) => 0,
+        Answer::Judged(_) | Answer::Told(_) | Answer::Left { .. } => 0,
         Answer::Replayed(replayed) => end_run(replayed.end, err),
     }
 }

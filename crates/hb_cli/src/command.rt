@@ -8,7 +8,7 @@ ghost use Rattle.hb_base.specs.Outcome.{Answers};
 ghost use Rattle.hb_cli.specs.Replaying.{done_by, run_state};
 ghost use Rattle.hb_serve.specs.Served.{heard_of};
 ghost use Rattle.hb_turns.specs.Notes.{held};
-ghost use Rattle.hb_words.specs.Asked.{question, command_of};
+ghost use Rattle.hb_words.specs.Asked.{command_of};
 ghost use Rattle.hb_words.specs.AskedRun.{replay_seen};
 ghost use Rattle.hb_words.specs.Command.{replays};
 ghost use Rattle.hb_words.specs.Words.{words_of};
@@ -16,7 +16,6 @@ ghost use Rattle.hb_world.specs.Allowed.{Allowed};
 ghost use Rattle.hb_cli.specs.Answer.{texts, found_texts, Suits};
 ghost use Rattle.hb_cli.specs.Ending.{EndsWith, Others};
 ghost use Rattle.hb_cli.specs.Hearing.{HearsOf, HearsBy};
-ghost use Rattle.hb_cli.specs.Judge.{judged_by};
 ghost use Rattle.hb_cli.specs.Looking.{ComesTo, GivesUp};
 ghost use Rattle.hb_cli.specs.Leaving.{LeavesOf, CommandLeaves, LeavesBy};
 ghost use Rattle.hb_cli.specs.Run.{WritesLine, printed_by, stop_line, takes_input};
@@ -26,6 +25,7 @@ ghost use Rattle.hb_cli.specs.declared.stop.Stop.TheVariants.{NoMemory};
 
 use crate::answer::{Answer, Printed, end, print};
 use crate::input::{Refused, read_input};
+use crate::judging::{check_input, route_input};
 use crate::making::make_script;
 use crate::paging::print_page;
 use crate::replaying::replay;
@@ -34,24 +34,13 @@ use crate::stop::Stop;
 use crate::telling::tell;
 use hb_audit::{Audit, Audits};
 use hb_base::{Bytes, Or, ReadStop, Sink, Source, Text, read_all};
-use hb_table::{Judged, judge};
 use hb_turns::Keep;
-use hb_words::{Check, Command, Replay, read_words};
+use hb_words::{Command, Replay, read_words};
 use hb_world::{ScriptWorld, World};
 use std::alloc::{AllocError, Global};
 
 /// The most bytes of input.
 const LONGEST_INPUT: usize = 67_108_864;
-
-/// The answer to a question by the resources that this input leaves.
-fn judge_input(alloc: Global, check: &Check<'_>, input: &[u8]) -> Result<Judged, Or<Refused>>
-    ensures { Answers result (judged_by (question check.now) input.now) }
-{
-    let network = Text::of_str(alloc, check.network)?;
-    let node = Text::of_str(alloc, check.node)?;
-    let left = read_input(alloc, network, node, false, input)?;
-    Ok(judge(&left.held, &check.peer, check.target))
-}
 
 /// The answer of a replay of this input.
 fn replay_input<A: Audit>(
@@ -96,13 +85,15 @@ fn answer<A: Audit>(
         (held keep.new) result }
 {
     match command {
-        Command::Check(check) => {
-            Ok(Answer::Judged(judge_input(alloc, check, input.as_slice())?))
-        },
-        Command::Show => {
+        Command::Check(check) => check_input(alloc, check, input.as_slice()),
+        Command::Route(words) => route_input(alloc, words, input.as_slice()),
+        Command::Show(words) => {
             let unnamed = Text::empty(alloc);
             let left = read_input(alloc, unnamed, Text::empty(alloc), true, input.as_slice())?;
-            Ok(Answer::Left(left))
+            Ok(Answer::Left {
+                left,
+                fields: words.fields,
+            })
         }
         Command::Replay(words) => replay_input(alloc, words, input, keep, audits, script),
         Command::Serve(_) | Command::Make(_) | Command::Print(_) => unreachable!(),

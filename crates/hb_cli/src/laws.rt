@@ -1,6 +1,7 @@
 //! Ends of a command that aren't what it does, and one that is. Each is the contract of a function that does nothing.
 
 ghost use Rattle.hb_audit.specs.HeldBy.{answers_by};
+ghost use Rattle.hb_cli.specs.Explaining.{Explains, told_lines, by_next_rule, all_but_first};
 ghost use Rattle.hb_cli.specs.Refused.{NoOtherStatus, DonePrintsNothing, RefusedPrints, UnreadUncounted, NoWordsAreRefused};
 ghost use Rattle.hb_cli.specs.Refused.{NeverEndsWith, PrintsNothing, HidesFault, InventsFault, PrintsWanting, MayLack};
 ghost use Rattle.hb_cli.specs.Refused.{MakeNeverEndsWith, TextNeverEndsWith, MakesNothing, MakesAnother, RunsUnasked};
@@ -62,6 +63,14 @@ pub fn ends_of_pages_are_told_apart<A: Audit>()
     ensures nothing { PrintsNoPage (answers_by A.notes A.answers) }
     ensures another { PrintsAnotherPage (answers_by A.notes A.answers) }
     ensures printed { PageMayBePrinted (answers_by A.notes A.answers) }
+{}
+
+/// The lines that `check --explain` prints tell each policy that counts, by the first of its rules that the connection meets, and decide the
+/// answer. Lines that tell another rule do not, nor do those that leave a policy out.
+pub fn explanations_decide_answers()
+    ensures explains { Explains told_lines }
+    ensures another { Explains by_next_rule → ⊥ }
+    ensures fewer { Explains all_but_first → ⊥ }
 {}
 
 /// A run in which a request was answered 500 for want of memory isn't told to have ended by a stop, by its world or by its turns. One in

@@ -6,6 +6,7 @@ mod asked;
 mod command;
 mod ended;
 mod input;
+mod judging;
 pub mod laws;
 mod making;
 mod paging;

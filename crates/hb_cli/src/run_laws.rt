@@ -11,6 +11,7 @@ ghost use Rattle.hb_cli.specs.declared.ended.ReplayEnd.TheVariants as ends;
 ghost use Rattle.hb_turns.specs.Notes.{held};
 ghost use Rattle.hb_words.specs.Command.{Replay as Replays, Serve as Serves, shows, replays, serves, makes, prints};
 ghost use Rattle.hb_words.specs.declared.asks.Make.{Make as Makes};
+ghost use Rattle.hb_words.specs.declared.asks.Show.{Show as Shows};
 ghost use Rattle.hb_words.specs.declared.page.Page.{Page as Pages};
 ghost use Rattle.hb_cli.specs.Asked.{words_of};
 ghost use Rattle.hb_cli.specs.Ending.{EachEnding};
@@ -65,7 +66,7 @@ pub fn answers_are_printed_as_words_and_input_have_them<A: Audit>()
         × ((n : ℕ) × (n < length text) × Appends r.out.bytes r.out.bytes_after (take n text))) }
     ensures quiet { EachEnding (answers_by A.notes A.answers) (λ r status. is_answered status ≡ false → status ≢ 7 → status ≢ 9 → r.out.bytes_after ≡ r.out.bytes) }
     ensures printed_wanting { EachEnding (answers_by A.notes A.answers) (λ r status. status ≡ 9 → (r.out.bytes_after ≡ r.out.bytes) ⊎ ((text : List ℕ)
-        × (r.asked ≡ Ok shows) × IsOutcomeBy r.asked (done_in r.left) (Ok text)
+        × (s : Shows) × (r.asked ≡ Ok (shows s)) × IsOutcomeBy r.asked (done_in r.left) (Ok text)
         × IfSome r.input.bytes (λ left. outcome_by r.asked (done_in r.left) left ≡ Ok text)
         × ((n : ℕ) × (n ≤ length text) × Appends r.out.bytes r.out.bytes_after (take n text)))) }
 {}

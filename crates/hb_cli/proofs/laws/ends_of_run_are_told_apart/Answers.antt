@@ -1,5 +1,6 @@
-use Rattle.std.proofs.Common.{◌≡◌, ℕ, List, [], Option, Some, Result, Ok, Err, inl, refl, sym, subst, ap, ◌∙◌, if◌then◌else◌, Bool, true, false, arith}
+use Rattle.std.proofs.Common.{◌≡◌, ℕ, List, [], ◌++◌, Option, Some, Result, Ok, Err, inl, refl, sym, subst, ap, ◌∙◌, if◌then◌else◌, Bool, true, false, arith}
 use Rattle.std.specs.Io.KnownBytes.{Appends}
+use Rattle.std.specs.List.{flat_map}
 use Rattle.std.specs.Prelude.{nat_lt, length}
 use Rattle.hb_audit.specs.HeldBy.{answers_by}
 use Rattle.hb_wire.specs.Message.{and_then}
@@ -7,13 +8,15 @@ use Rattle.hb_words.specs.Command.{Command, Question, checks}
 use Rattle.hb_words.specs.declared.fault.WordsFault.{WordsFault}
 use Rattle.hb_words.specs.declared.fault.WordsFault.TheVariants.{NoCommand}
 use Rattle.hb_cli.specs.Replaying.{Done, done_in}
+use Rattle.hb_held.specs.Held.{Resources}
+use Rattle.hb_table.specs.Judgement.{judged}
 use Rattle.hb_table.specs.declared.judgement.Judged.{Judged}
 use Rattle.hb_table.specs.declared.judgement.Judged.TheVariants.{Admitted, Denied, Unknown}
 use Rattle.hb_cli.specs.declared.input.Refused.{Refused as Refusal}
 use Rattle.hb_cli.specs.declared.stop.Stop.TheVariants.{TooLong}
 use Rattle.hb_cli.specs.Input.{longest_input}
-use Rattle.hb_cli.specs.Judge.{judged_by}
-use Rattle.hb_cli.specs.Run.{answer_line, answer_after, or_refused, outcome_by}
+use Rattle.hb_cli.specs.Judge.{answer_line, counting, policy_line, connection, checked, held_by}
+use Rattle.hb_cli.specs.Run.{answer_after, or_refused, outcome_by}
 use Rattle.hb_cli.specs.Refused.{without_words}
 use Rattle.hb_cli.proofs.Endings.{stays_still, ends_at, gives_of}
 use Rattle.hb_cli.proofs.laws.ends_of_run_are_told_apart.Goals as goal
@@ -24,15 +27,26 @@ no_line Admitted is = absurd cc
 no_line Denied is = absurd cc
 no_line Unknown is = absurd cc
 
-not_empty : (over : Bool) (j : Result Judged Refusal)
-    → (if over then Err TooLong else or_refused (and_then j (λ judged. Ok (answer_line judged)))) ≡ Ok [] → ⊥
-not_empty true j is = absurd cc
-not_empty false (Ok judged) is = let same : answer_line judged ≡ [] = cc in no_line judged same
-not_empty false (Err refusal) is = absurd cc
+no_more : (j : Judged) (more : List ℕ) → answer_line j ++ more ≡ [] → ⊥
+no_more Admitted more is = absurd cc
+no_more Denied more is = absurd cc
+no_more Unknown more is = absurd cc
+
+no_text : (explain : Bool) (j : Judged) (more : List ℕ) → (if explain then answer_line j ++ more else answer_line j) ≡ [] → ⊥
+no_text true j more is = no_more j more is
+no_text false j more is = no_line j is
+
+not_empty : (q : Question) (over : Bool) (held : Result Resources Refusal)
+    → (if over then Err TooLong else or_refused (and_then held (λ h. Ok (checked q h)))) ≡ Ok [] → ⊥
+not_empty q true held is = absurd cc
+not_empty q false (Ok h) is =
+    let same : checked q h ≡ [] = cc in
+    no_text q.explain (judged h q.peer q.target) (flat_map (policy_line (connection q)) (counting h (connection q))) same
+not_empty q false (Err refusal) is = absurd cc
 
 prints : (q : Question) (done : Done) (input : List ℕ) → answer_after (checks q) done input ≡ Ok [] → ⊥
 unfolding answer_after
-prints q done input is = not_empty (nat_lt longest_input (length input)) (judged_by q input) is
+prints q done input is = not_empty q (nat_lt longest_input (length input)) (held_by q.network q.node input) is
 
 -- where nothing was there and nothing is, nothing was appended
 none_appended : (a b : Option (List ℕ)) (text : List ℕ) → a ≡ Some [] → b ≡ Some [] → Appends a b text → text ≡ []

@@ -4,6 +4,7 @@ use Rattle.std.specs.Prelude.{◌⊎◌, IfSome}
 use Rattle.hb_audit.specs.Tells.{Answering}
 use Rattle.hb_cli.specs.Replaying.{done_in}
 use Rattle.hb_words.specs.Command.{shows}
+use Rattle.hb_words.specs.declared.asks.Show.{Show}
 use Rattle.hb_cli.specs.Ending.{Run, ShownInPart, Wanting}
 use Rattle.hb_cli.specs.Run.{outcome_by, is_answered, IsOutcomeBy}
 use Rattle.hb_cli.specs.Use.{Untouched}
@@ -12,11 +13,11 @@ use Rattle.hb_cli.proofs.run_laws.answers_are_printed_as_words_and_input_have_th
 
 -- where memory was wanting nothing is printed, or a part of what `show` prints
 in_part : {A : Type 0} {own : Answering A} (r : Run own) → Wanting r → (r.out.bytes_after ≡ r.out.bytes) ⊎ ((text : List ℕ)
-    × (r.asked ≡ Ok shows)
+    × (s : Show) × (r.asked ≡ Ok (shows s))
     × IsOutcomeBy r.asked (done_in r.left) (Ok text) × IfSome r.input.bytes (λ left. outcome_by r.asked (done_in r.left) left ≡ Ok text)
     × ((n : ℕ) × (n ≤ length text) × Appends r.out.bytes r.out.bytes_after (take n text)))
 in_part r a = ⊎_elim (λ (quiet : Untouched r.out). inl quiet.0)
-    (λ (part : ShownInPart r). inr (part.0, part.1, part.2.2, part.2.1, part.3.0)) a.1
+    (λ (part : ShownInPart r). inr (part.0, part.1, part.2, part.3.2, part.3.1, part.4.0)) a.1
 
 pub returns-clause-printed : goal.returns-clause-printed
 returns-clause-printed g c = λ r status e takes answered.

@@ -8,7 +8,7 @@ use Rattle.hb_cli.proofs.run_laws.faults_are_told_by_statuses.Goals as goal
 
 -- where memory was wanting no put failed
 puts_well : {A : Type 0} {own : Answering A} (r : Run own) → Wanting r → NoFault r.out
-puts_well r a = ⊎_elim (λ (quiet : Untouched r.out). quiet.1) (λ (part : ShownInPart r). part.3.1) a.1
+puts_well r a = ⊎_elim (λ (quiet : Untouched r.out). quiet.1) (λ (part : ShownInPart r). part.4.1) a.1
 
 pub returns-clause-read_fault : goal.returns-clause-read_fault
 returns-clause-read_fault g c = λ r. by_status r (λ s. Counts r.input.faults r.input.faults_after (s == 6))
