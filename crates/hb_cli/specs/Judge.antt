@@ -57,13 +57,9 @@ checked q h = if q.explain then explained h (connection q) else answer_line (jud
 abbrev pub routed : Route → Resources → List ℕ
 routed r h = way_text (way h empty r.source r.target r.hbone_port)
 
--- what an input leaves held at a node of a network, or the first of its messages that is refused
-abbrev pub held_by : List ℕ → List ℕ → List ℕ → Result Resources Refused
-held_by network node input = and_then (left_by false network node input) (λ l. Ok l.held)
-
--- what is printed by an input, or the first of its messages that is refused
+-- what they print by the resources that an input leaves, or the first of its messages that is refused
 abbrev pub checked_by : Question → List ℕ → Result (List ℕ) Refused
-checked_by q input = and_then (held_by q.network q.node input) (λ h. Ok (checked q h))
+checked_by q input = and_then (left_by false q.network q.node input) (λ l. Ok (checked q l.held))
 
 abbrev pub routed_by : Route → List ℕ → Result (List ℕ) Refused
-routed_by r input = and_then (held_by r.network r.node input) (λ h. Ok (routed r h))
+routed_by r input = and_then (left_by false r.network r.node input) (λ l. Ok (routed r l.held))

@@ -7,10 +7,11 @@ ghost use Rattle.hb_held.specs.Policies.{policies_for};
 ghost use Rattle.hb_words.specs.Asked.{question, route_seen};
 ghost use Rattle.hb_words.specs.Command.{checks, routes};
 ghost use Rattle.hb_cli.specs.Answer.{texts, Suits};
-ghost use Rattle.hb_cli.specs.Judge.{policy_line, explained, held_by, checked_by, routed_by};
+ghost use Rattle.hb_cli.specs.Input.{left_by};
+ghost use Rattle.hb_cli.specs.Judge.{policy_line, explained, checked_by, routed_by};
 
 use crate::answer::{Answer, line_of};
-use crate::input::{Refused, read_input};
+use crate::input::{Left, Refused, read_input};
 use hb_base::{NoMemory, Or, Peer, Target, Text};
 use hb_held::Held;
 use hb_lines::{explained_line, way_line};
@@ -21,16 +22,13 @@ use hb_table::judge;
 use hb_words::{Check, Route};
 use std::alloc::Global;
 
-/// The resources that an input leaves at a node of a network.
-///
-/// Errors: as `read_input`.
-fn held_by(alloc: Global, network: &str, node: &str, input: &[u8]) -> Result<Held, Or<Refused>>
-    ensures { Answers result (held_by network.now node.now input.now) }
+/// What an input leaves at a node of a network.
+fn read_untold(alloc: Global, network: &str, node: &str, input: &[u8]) -> Result<Left, Or<Refused>>
+    ensures { Answers result (left_by false network.now node.now input.now) }
 {
     let network = Text::of_str(alloc, network)?;
     let node = Text::of_str(alloc, node)?;
-    let left = read_input(alloc, network, node, false, input)?;
-    Ok(left.held)
+    read_input(alloc, network, node, false, input)
 }
 
 /// Adds a line of each policy that is for the workload.
@@ -71,12 +69,12 @@ pub fn check_input(alloc: Global, check: &Check<'_>, input: &[u8]) -> Result<Ans
     ensures text { Answers (texts result) (checked_by (question check.now) input.now) }
     ensures kind { IfOk result (λ a. Suits (checks (question check.now)) a) }
 {
-    let held = held_by(alloc, check.network, check.node, input)?;
+    let left = read_untold(alloc, check.network, check.node, input)?;
     if check.explain {
-        let text = explained(alloc, &held, &check.peer, check.target)?;
+        let text = explained(alloc, &left.held, &check.peer, check.target)?;
         return Ok(Answer::Told(text));
     }
-    Ok(Answer::Judged(judge(&held, &check.peer, check.target)))
+    Ok(Answer::Judged(judge(&left.held, &check.peer, check.target)))
 }
 
 /// The answer of `route` by this input: the way of a connection where none is open yet.
@@ -86,9 +84,15 @@ pub fn route_input(alloc: Global, words: &Route<'_>, input: &[u8]) -> Result<Ans
     ensures text { Answers (texts result) (routed_by (route_seen words.now) input.now) }
     ensures kind { IfOk result (λ a. Suits (routes (route_seen words.now)) a) }
 {
-    let held = held_by(alloc, words.network, words.node, input)?;
+    let left = read_untold(alloc, words.network, words.node, input)?;
     let opens = Opens::new(alloc);
-    let way = route(&held, &opens, words.source, words.target, words.hbone_port);
+    let way = route(
+        &left.held,
+        &opens,
+        words.source,
+        words.target,
+        words.hbone_port,
+    );
     let text = way_line(alloc, &way)?;
     Ok(Answer::Told(text))
 }

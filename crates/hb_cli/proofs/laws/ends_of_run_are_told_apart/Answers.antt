@@ -8,14 +8,13 @@ use Rattle.hb_words.specs.Command.{Command, Question, checks}
 use Rattle.hb_words.specs.declared.fault.WordsFault.{WordsFault}
 use Rattle.hb_words.specs.declared.fault.WordsFault.TheVariants.{NoCommand}
 use Rattle.hb_cli.specs.Replaying.{Done, done_in}
-use Rattle.hb_held.specs.Held.{Resources}
 use Rattle.hb_table.specs.Judgement.{judged}
 use Rattle.hb_table.specs.declared.judgement.Judged.{Judged}
 use Rattle.hb_table.specs.declared.judgement.Judged.TheVariants.{Admitted, Denied, Unknown}
 use Rattle.hb_cli.specs.declared.input.Refused.{Refused as Refusal}
 use Rattle.hb_cli.specs.declared.stop.Stop.TheVariants.{TooLong}
-use Rattle.hb_cli.specs.Input.{longest_input}
-use Rattle.hb_cli.specs.Judge.{answer_line, counting, policy_line, connection, checked, held_by}
+use Rattle.hb_cli.specs.Input.{longest_input, Leaves, left_by}
+use Rattle.hb_cli.specs.Judge.{answer_line, counting, policy_line, connection, checked}
 use Rattle.hb_cli.specs.Run.{answer_after, or_refused, outcome_by}
 use Rattle.hb_cli.specs.Refused.{without_words}
 use Rattle.hb_cli.proofs.Endings.{stays_still, ends_at, gives_of}
@@ -36,17 +35,17 @@ no_text : (explain : Bool) (j : Judged) (more : List ℕ) → (if explain then a
 no_text true j more is = no_more j more is
 no_text false j more is = no_line j is
 
-not_empty : (q : Question) (over : Bool) (held : Result Resources Refusal)
-    → (if over then Err TooLong else or_refused (and_then held (λ h. Ok (checked q h)))) ≡ Ok [] → ⊥
-not_empty q true held is = absurd cc
-not_empty q false (Ok h) is =
-    let same : checked q h ≡ [] = cc in
-    no_text q.explain (judged h q.peer q.target) (flat_map (policy_line (connection q)) (counting h (connection q))) same
+not_empty : (q : Question) (over : Bool) (left : Result Leaves Refusal)
+    → (if over then Err TooLong else or_refused (and_then left (λ l. Ok (checked q l.held)))) ≡ Ok [] → ⊥
+not_empty q true left is = absurd cc
+not_empty q false (Ok l) is =
+    let same : checked q l.held ≡ [] = cc in
+    no_text q.explain (judged l.held q.peer q.target) (flat_map (policy_line (connection q)) (counting l.held (connection q))) same
 not_empty q false (Err refusal) is = absurd cc
 
 prints : (q : Question) (done : Done) (input : List ℕ) → answer_after (checks q) done input ≡ Ok [] → ⊥
 unfolding answer_after
-prints q done input is = not_empty q (nat_lt longest_input (length input)) (held_by q.network q.node input) is
+prints q done input is = not_empty q (nat_lt longest_input (length input)) (left_by false q.network q.node input) is
 
 -- where nothing was there and nothing is, nothing was appended
 none_appended : (a b : Option (List ℕ)) (text : List ℕ) → a ≡ Some [] → b ≡ Some [] → Appends a b text → text ≡ []
