@@ -110,17 +110,17 @@ module _ {A : Type 0} {own : Answering A} (input out err : Use) (w : WorldUse ow
   broken (prints p) stop takes leaves = absurd cc
 
   -- no run of the proxy stands behind these
-  ends_routed : {w : Route} (a : Answer) → Suits (routes w) a → end_of a ≡ ends.Stopped
-  ends_routed (Judged judged) suits = refl
-  ends_routed (Told text) suits = refl
-  ends_routed (Left l fields) suits = refl
-  ends_routed (Replayed told) suits = absurd suits
+  ends_routed : (w : Route) (a : Answer) → Suits (routes w) a → end_of a ≡ ends.Stopped
+  ends_routed w (Judged judged) suits = refl
+  ends_routed w (Told text) suits = refl
+  ends_routed w (Left l fields) suits = refl
+  ends_routed w (Replayed told) suits = absurd suits
 
-  ends_shown : {s : Show} (a : Answer) → Suits (shows s) a → end_of a ≡ ends.Stopped
-  ends_shown (Judged judged) suits = refl
-  ends_shown (Told text) suits = refl
-  ends_shown (Left l fields) suits = refl
-  ends_shown (Replayed told) suits = absurd suits
+  ends_shown : (s : Show) (a : Answer) → Suits (shows s) a → end_of a ≡ ends.Stopped
+  ends_shown s (Judged judged) suits = refl
+  ends_shown s (Told text) suits = refl
+  ends_shown s (Left l fields) suits = refl
+  ends_shown s (Replayed told) suits = absurd suits
 
   -- the answer is one of the command
   gives : (c : Command) (a : Answer) → Suits c a → LooksAt (Ok c) (done_in left) input (Ok (answer_text a))
@@ -130,8 +130,8 @@ module _ {A : Type 0} {own : Answering A} (input out err : Use) (w : WorldUse ow
   gives (checks q) (Told text) suits looks leaves hears = (refl, looks)
   gives (checks q) (Left l fields) suits looks leaves hears = absurd suits
   gives (checks q) (Replayed told) suits looks leaves hears = absurd suits
-  gives (routes w) a suits looks leaves hears = (ends_routed a suits, looks)
-  gives (shows s) a suits looks leaves hears = (ends_shown a suits, looks)
+  gives (routes w) a suits looks leaves hears = (ends_routed w a suits, looks)
+  gives (shows s) a suits looks leaves hears = (ends_shown s a suits, looks)
   gives (replays p) (Judged judged) suits looks leaves hears = absurd suits
   gives (replays p) (Told text) suits looks leaves hears = absurd suits
   gives (replays p) (Left l fields) suits looks leaves hears = absurd suits
