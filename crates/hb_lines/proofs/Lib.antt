@@ -1,2 +1,3 @@
 pub mod AddressText
+pub mod FieldsNoFloats
 pub mod NoFloats

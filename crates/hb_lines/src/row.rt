@@ -15,7 +15,7 @@ use hb_records::{Action, AddressRecord, Authorization, Reach, Service, Workload}
 use serde_json::{Value, json};
 use std::alloc::Global;
 
-fn action_word(action: Action) -> &'static str
+pub(crate) fn action_word(action: Action) -> &'static str
     ensures { result.now ≡ action_word action }
 {
     match action {
@@ -134,7 +134,8 @@ fn policy_value(
     })
 }
 
-fn row_value(alloc: Global, row: &HeldRow<'_>) -> Result<Value, NoMemory>
+/// A resource held, as an object.
+pub(crate) fn row_value(alloc: Global, row: &HeldRow<'_>) -> Result<Value, NoMemory>
     ensures { IfOk result (λ v. view v ≡ row_data (row_as row.now)) }
 {
     match row.content {

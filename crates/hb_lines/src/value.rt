@@ -1,8 +1,8 @@
 //! Values in JSON.
 
-ghost use Rattle.std.specs.Prelude.{◌≡◌, ◌++◌, ◌∷◌, [], map, IfOk, false};
-ghost use Rattle.std.specs.Str.{IsUtf8};
+ghost use Rattle.std.specs.Prelude.{◌≡◌, ◌++◌, ◌∷◌, [], map, string_bytes, IfOk, false};
 ghost use Rattle.hex.specs.Hex.{encode_lower};
+ghost use Rattle.hb_base.specs.IpText.{ip_text};
 ghost use Rattle.serde_json.specs.Data.{string, array};
 ghost use Rattle.serde_json.specs.View.{view, items_of};
 ghost use Rattle.serde_json.specs.Written.{compact_text, has_float};
@@ -24,13 +24,24 @@ pub(crate) trait ToJson {
         ensures { IfOk result (λ v. view v ≡ told self.now) };
 }
 
-/// A string of bytes that are UTF-8.
-fn string_of(alloc: Global, bytes: &[u8]) -> Result<Value, NoMemory>
-    requires { IsUtf8 bytes.now }
-    ensures { IfOk result (λ v. view v ≡ string bytes.now) }
+/// A text as characters.
+pub(crate) fn str_of(text: &Text) -> &str
+    ensures { result.now ≡ text.now }
 {
-    match std::str::from_utf8(bytes) {
-        Ok(text) => Value::try_from_str(alloc, text),
+    match std::str::from_utf8(text.as_slice()) {
+        Ok(text) => text,
+        Err(_) => unreachable!(),
+    }
+}
+
+/// The text of an address.
+pub(crate) fn ip_string(alloc: Global, ip: Ip) -> Result<String, NoMemory>
+    ensures { IfOk result (λ text. string_bytes text ≡ ip_text ip) }
+{
+    let mut text = Vec::new(alloc);
+    put_ip(alloc, ip, &mut text)?;
+    match String::from_utf8(text) {
+        Ok(text) => Ok(text),
         Err(_) => unreachable!(),
     }
 }
@@ -41,7 +52,7 @@ impl ToJson for Text {
     ghost told = { string };
 
     fn to_json(&self, alloc: Global) -> Result<Value, NoMemory> {
-        string_of(alloc, self.as_slice())
+        Value::try_from_str(alloc, str_of(self))
     }
 }
 
@@ -52,9 +63,17 @@ impl ToJson for Ip {
     ghost told = { ip_data };
 
     fn to_json(&self, alloc: Global) -> Result<Value, NoMemory> {
-        let mut text = Vec::new(alloc);
-        put_ip(alloc, *self, &mut text)?;
-        string_of(alloc, text.as_slice())
+        Ok(Value::String(ip_string(alloc, *self)?))
+    }
+}
+
+impl ToJson for u32 {
+    ghost use Rattle.hb_lines.specs.Value.{number_data};
+
+    ghost told = { number_data };
+
+    fn to_json(&self, _alloc: Global) -> Result<Value, NoMemory> {
+        Ok(Value::from(*self))
     }
 }
 
