@@ -5,9 +5,11 @@ use Rattle.std.specs.List.{fold}
 use Rattle.std.specs.Option.{option_map}
 use Rattle.std.specs.Ordering.{nat_cmp, match_ordering}
 use Rattle.std.proofs.lemmas.Bool.{or_parts, or_from}
-use Rattle.serde_json.specs.Data.{Data, number, unsigned, string, object, Members, no_members, member, put}
+use Rattle.serde_json.specs.Data.{Data, number, unsigned, string, array, object, Members, no_members, member, put}
+use Rattle.serde_json.specs.View.{items_of}
 use Rattle.serde_json.specs.Written.{has_float, members_have_float}
 use Rattle.hb_held.specs.Rows.{Content, address_content, policy_content, Row}
+use Rattle.hb_records.specs.declared.address.AddressRecord.{AddressRecord}
 use Rattle.hb_records.specs.declared.address.AddressRecord.TheVariants as records
 use Rattle.hb_records.specs.declared.authorization.Authorization.{Authorization}
 use Rattle.hb_records.specs.declared.gateway.GatewayAddress.{GatewayAddress}
@@ -18,11 +20,11 @@ use Rattle.hb_records.specs.declared.rule.Match.{Match}
 use Rattle.hb_records.specs.declared.rule.Rule.{Rule}
 use Rattle.hb_records.specs.declared.service.Service.{Service}
 use Rattle.hb_records.specs.declared.workload.Workload.{Workload}
-use Rattle.hb_lines.specs.AddressFields.{network_address_data, waypoint_data, port_data, put_service, services_member}
-use Rattle.hb_lines.specs.Fields.{workload_fields, service_fields, policy_fields, content_fields, fields_data}
-use Rattle.hb_lines.specs.Object.{text_member, array_member, number_member, put_some, with_member}
+use Rattle.hb_lines.specs.AddressFields.{network_address_data, waypoint_members, waypoint_data, port_members, port_data, put_service, services_member}
+use Rattle.hb_lines.specs.Fields.{workload_members, workload_fields, service_members, service_fields, policy_members, policy_fields, record_fields, content_fields, fields_data}
+use Rattle.hb_lines.specs.Object.{text_member, array_member, number_member, put_some, put_members, object_of, with_member}
 use Rattle.hb_lines.specs.Row.{row_data}
-use Rattle.hb_lines.specs.RuleFields.{string_match_data, cidr_data, match_data, clause_data, rule_data}
+use Rattle.hb_lines.specs.RuleFields.{string_match_data, cidr_data, match_members, match_data, clause_data, rule_data}
 use Rattle.hb_lines.specs.Value.{ip_data, number_data}
 use Rattle.hb_lines.proofs.NoFloats.{items_without, row_without}
 
@@ -46,11 +48,24 @@ put_without k d (member l e ms) p q =
     (or_from (has_float d) _ p parts.1)
     (or_from (has_float e) _ parts.0 (put_without k d ms p parts.1))
 
-also : {k : List ℕ} {v : Option Data} {ms : Members} → IsWithout v → members_have_float ms ≡ false
+put_some_without : (k : List ℕ) (v : Option Data) (ms : Members) → IsWithout v → members_have_float ms ≡ false
     → members_have_float (put_some k v ms) ≡ false
 unfolding put_some
-also {k = k} {v = None} {ms = ms} p q = q
-also {k = k} {v = Some d} {ms = ms} p q = put_without k d ms p q
+put_some_without k None ms p q = q
+put_some_without k (Some d) ms p q = put_without k d ms p q
+
+-- none of these values has a float
+abbrev AreWithout : List (List ℕ × Option Data) → Type 0
+AreWithout [] = Unit {0}
+AreWithout (m ∷ ms) = IsWithout m.1 × AreWithout ms
+
+members_without : (ms : List (List ℕ × Option Data)) (o : Members) → AreWithout ms → members_have_float o ≡ false
+    → members_have_float (put_members o ms) ≡ false
+members_without [] o h q = q
+members_without (m ∷ ms) o h q = members_without ms (put_some m.0 m.1 o) h.1 (put_some_without m.0 m.1 o h.0 q)
+
+object_without : (ms : List (List ℕ × Option Data)) → AreWithout ms → has_float (object_of ms) ≡ false
+object_without ms h = members_without ms no_members h refl
 
 text_without : (text : List ℕ) → IsWithout (text_member text)
 unfolding text_member
@@ -77,15 +92,15 @@ option_without told none None = tt
 option_without told none (Some t) = none t
 
 waypoint_without : (g : GatewayAddress) → has_float (waypoint_data g) ≡ false
-waypoint_without g = also (number_without g.hbone_mtls_port) (also refl refl)
+waypoint_without g = object_without (waypoint_members g) (refl, (number_without g.hbone_mtls_port, tt))
 
 port_without : (p : Port) → has_float (port_data p) ≡ false
-port_without p = also (number_without p.target_port) (also refl refl)
+port_without p = object_without (port_members p) (refl, (number_without p.target_port, tt))
 
 services_without : (ss : List ServicePorts) (ms : Members) → members_have_float ms ≡ false → members_have_float (fold put_service ms ss) ≡ false
 services_without [] ms q = q
 services_without (s ∷ ss) ms q =
-    services_without ss (put_service ms s) (put_without s.key _ ms (items_without port_data port_without s.ports) q)
+    services_without ss (put_service ms s) (put_without s.key (array (items_of (map port_data s.ports))) ms (items_without port_data port_without s.ports) q)
 
 services_member_without : (ss : List ServicePorts) → IsWithout (services_member ss)
 unfolding services_member
@@ -94,16 +109,34 @@ services_member_without (s ∷ ss) = services_without (s ∷ ss) no_members refl
 
 match_without : (m : Match) → has_float (match_data m) ≡ false
 match_without m =
-    also (array_without cidr_data (λ _. refl) m.source_ips)
-    (also (array_without string_match_data (λ _. refl) m.principals)
-    (also (array_without cidr_data (λ _. refl) m.not_source_ips)
-    (also (array_without string_match_data (λ _. refl) m.not_principals)
-    (also (array_without string_match_data (λ _. refl) m.not_namespaces)
-    (also (array_without number_data (λ _. refl) m.not_destination_ports)
-    (also (array_without cidr_data (λ _. refl) m.not_destination_ips)
-    (also (array_without string_match_data (λ _. refl) m.namespaces)
-    (also (array_without number_data (λ _. refl) m.destination_ports)
-    (also (array_without cidr_data (λ _. refl) m.destination_ips) refl)))))))))
+    object_without (match_members m) (
+      array_without cidr_data (λ _. refl) m.destination_ips,
+      (
+        array_without number_data (λ _. refl) m.destination_ports,
+        (
+          array_without string_match_data (λ _. refl) m.namespaces,
+          (
+            array_without cidr_data (λ _. refl) m.not_destination_ips,
+            (
+              array_without number_data (λ _. refl) m.not_destination_ports,
+              (
+                array_without string_match_data (λ _. refl) m.not_namespaces,
+                (
+                  array_without string_match_data (λ _. refl) m.not_principals,
+                  (
+                    array_without cidr_data (λ _. refl) m.not_source_ips,
+                    (
+                      array_without string_match_data (λ _. refl) m.principals,
+                      (array_without cidr_data (λ _. refl) m.source_ips, tt),
+                    ),
+                  ),
+                ),
+              ),
+            ),
+          ),
+        ),
+      ),
+    )
 
 clause_without : (c : Clause) → has_float (clause_data c) ≡ false
 clause_without c = items_without match_data match_without c.matches
@@ -113,41 +146,88 @@ rule_without r = items_without clause_data clause_without r.clauses
 
 workload_without : (w : Workload) → has_float (workload_fields w) ≡ false
 workload_without w =
-    also (option_without waypoint_data waypoint_without w.waypoint)
-    (also (text_without w.uid)
-    (also (text_without w.trust_domain)
-    (also refl
-    (also (services_member_without w.services)
-    (also (text_without w.service_account)
-    (also refl
-    (also (text_without w.node)
-    (also (text_without w.network)
-    (also (text_without w.namespace)
-    (also (text_without w.name)
-    (also (text_without w.hostname)
-    (also (array_without string (λ _. refl) w.authorization_policies)
-    (also (array_without ip_data (λ _. refl) w.addresses) refl)))))))))))))
+    object_without (workload_members w) (
+      text_without w.hostname,
+      (
+        text_without w.name,
+        (
+          text_without w.namespace,
+          (
+            text_without w.network,
+            (
+              text_without w.node,
+              (
+                text_without w.service_account,
+                (
+                  text_without w.trust_domain,
+                  (
+                    text_without w.uid,
+                    (
+                      array_without ip_data (λ _. refl) w.addresses,
+                      (
+                        array_without string (λ _. refl) w.authorization_policies,
+                        (
+                          refl,
+                          (
+                            services_member_without w.services,
+                            (
+                              refl,
+                              (option_without waypoint_data waypoint_without w.waypoint, tt),
+                            ),
+                          ),
+                        ),
+                      ),
+                    ),
+                  ),
+                ),
+              ),
+            ),
+          ),
+        ),
+      ),
+    )
 
 service_without : (s : Service) → has_float (service_fields s) ≡ false
 service_without s =
-    also (option_without waypoint_data waypoint_without s.waypoint)
-    (also (array_without port_data port_without s.ports)
-    (also (text_without s.namespace)
-    (also (text_without s.name)
-    (also (text_without s.hostname)
-    (also (array_without network_address_data (λ _. refl) s.addresses) refl)))))
+    object_without (service_members s) (
+      array_without network_address_data (λ _. refl) s.addresses,
+      (
+        text_without s.hostname,
+        (
+          text_without s.name,
+          (
+            text_without s.namespace,
+            (
+              array_without port_data port_without s.ports,
+              (option_without waypoint_data waypoint_without s.waypoint, tt),
+            ),
+          ),
+        ),
+      ),
+    )
 
 policy_without : (p : Authorization) → has_float (policy_fields p) ≡ false
 policy_without p =
-    also refl
-    (also (array_without rule_data rule_without p.rules)
-    (also (text_without p.namespace)
-    (also (text_without p.name)
-    (also refl refl))))
+    object_without (policy_members p) (
+      refl,
+      (
+        text_without p.name,
+        (
+          text_without p.namespace,
+          (
+            array_without rule_data rule_without p.rules,
+            (refl, tt),
+          ),
+        ),
+      ),
+    )
+
+record_without : (a : AddressRecord) → has_float (record_fields a) ≡ false
+record_without (records.Workload w) = workload_without w
+record_without (records.Service s) = service_without s
 
 content_without : (content : Content) → has_float (content_fields content) ≡ false
-content_without (address_content (records.Workload w)) = workload_without w
-content_without (address_content (records.Service s)) = service_without s
+content_without (address_content a) = record_without a
 content_without (policy_content p) = policy_without p
 
 with_member_without : (k : List ℕ) (d e : Data) → has_float d ≡ false → has_float e ≡ false → has_float (with_member k d e) ≡ false

@@ -26,16 +26,22 @@ destination_text (Hostname namespace hostname) = joined namespace hostname
 destination_text (Address n) = network_address_text n
 
 -- a waypoint, with its port for HBONE where it names one
-abbrev pub waypoint_data : GatewayAddress → Data
-waypoint_data g = object_of (
+abbrev pub waypoint_members : GatewayAddress → List (List ℕ × Option Data)
+waypoint_members g =
     (codes "destination", Some (string (destination_text g.to))) ∷
-    (codes "hboneMtlsPort", number_member g.hbone_mtls_port) ∷ [])
+    (codes "hboneMtlsPort", number_member g.hbone_mtls_port) ∷ []
+
+abbrev pub waypoint_data : GatewayAddress → Data
+waypoint_data g = object_of (waypoint_members g)
 
 -- a port of a service, with the port to which it leads where it names one
-abbrev pub port_data : Port → Data
-port_data p = object_of (
+abbrev pub port_members : Port → List (List ℕ × Option Data)
+port_members p =
     (codes "servicePort", Some (number (unsigned p.service_port))) ∷
-    (codes "targetPort", number_member p.target_port) ∷ [])
+    (codes "targetPort", number_member p.target_port) ∷ []
+
+abbrev pub port_data : Port → Data
+port_data p = object_of (port_members p)
 
 -- the ports under which a workload serves each service, by the services' keys
 abbrev pub put_service : Members → ServicePorts → Members

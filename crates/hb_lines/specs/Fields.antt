@@ -1,5 +1,5 @@
 -- A resource held, as a line of JSON (RFC 8259) that has the fields of its record too, named as Istio names them. What is empty is left out.
-use Rattle.std.specs.Prelude.{ℕ, Bool, true, false, List, [], ◌∷◌, ◌++◌, Some, map, codes}
+use Rattle.std.specs.Prelude.{ℕ, Bool, true, false, List, [], ◌∷◌, ◌++◌, Option, Some, map, codes}
 use Rattle.std.specs.Option.{option_map}
 use Rattle.hb_held.specs.Rows.{Content, address_content, policy_content, Row}
 use Rattle.hb_records.specs.declared.address.AddressRecord.{AddressRecord}
@@ -28,31 +28,45 @@ abbrev pub status_word : Bool → List ℕ
 status_word true = codes "Healthy"
 status_word false = codes "Unhealthy"
 
-abbrev pub workload_fields : Workload → Data
-workload_fields w = object_of (
-    (codes "addresses", array_member (map ip_data w.addresses)) ∷
-    (codes "authorizationPolicies", array_member (map string w.authorization_policies)) ∷
+-- the names of a workload
+abbrev pub name_members : Workload → List (List ℕ × Option Data)
+name_members w =
     (codes "hostname", text_member w.hostname) ∷
     (codes "name", text_member w.name) ∷
     (codes "namespace", text_member w.namespace) ∷
     (codes "network", text_member w.network) ∷
     (codes "node", text_member w.node) ∷
-    (codes "protocol", Some (string (protocol_word w.hbone))) ∷
     (codes "serviceAccount", text_member w.service_account) ∷
+    (codes "trustDomain", text_member w.trust_domain) ∷
+    (codes "uid", text_member w.uid) ∷ []
+
+-- what else is said of it
+abbrev pub state_members : Workload → List (List ℕ × Option Data)
+state_members w =
+    (codes "addresses", array_member (map ip_data w.addresses)) ∷
+    (codes "authorizationPolicies", array_member (map string w.authorization_policies)) ∷
+    (codes "protocol", Some (string (protocol_word w.hbone))) ∷
     (codes "services", services_member w.services) ∷
     (codes "status", Some (string (status_word w.healthy))) ∷
-    (codes "trustDomain", text_member w.trust_domain) ∷
-    (codes "uid", text_member w.uid) ∷
-    (codes "waypoint", option_map waypoint_data w.waypoint) ∷ [])
+    (codes "waypoint", option_map waypoint_data w.waypoint) ∷ []
 
-abbrev pub service_fields : Service → Data
-service_fields s = object_of (
+abbrev pub workload_members : Workload → List (List ℕ × Option Data)
+workload_members w = name_members w ++ state_members w
+
+abbrev pub workload_fields : Workload → Data
+workload_fields w = object_of (workload_members w)
+
+abbrev pub service_members : Service → List (List ℕ × Option Data)
+service_members s =
     (codes "addresses", array_member (map network_address_data s.addresses)) ∷
     (codes "hostname", text_member s.hostname) ∷
     (codes "name", text_member s.name) ∷
     (codes "namespace", text_member s.namespace) ∷
     (codes "ports", array_member (map port_data s.ports)) ∷
-    (codes "waypoint", option_map waypoint_data s.waypoint) ∷ [])
+    (codes "waypoint", option_map waypoint_data s.waypoint) ∷ []
+
+abbrev pub service_fields : Service → Data
+service_fields s = object_of (service_members s)
 
 -- an action and a scope, as Istio's enums spell them
 abbrev pub action_name : Action → List ℕ
@@ -64,18 +78,24 @@ scope_name Global = codes "GLOBAL"
 scope_name Namespace = codes "NAMESPACE"
 scope_name Selector = codes "WORKLOAD_SELECTOR"
 
-abbrev pub policy_fields : Authorization → Data
-policy_fields p = object_of (
+abbrev pub policy_members : Authorization → List (List ℕ × Option Data)
+policy_members p =
     (codes "action", Some (string (action_name p.action))) ∷
     (codes "name", text_member p.name) ∷
     (codes "namespace", text_member p.namespace) ∷
     (codes "rules", array_member (map rule_data p.rules)) ∷
-    (codes "scope", Some (string (scope_name p.scope))) ∷ [])
+    (codes "scope", Some (string (scope_name p.scope))) ∷ []
+
+abbrev pub policy_fields : Authorization → Data
+policy_fields p = object_of (policy_members p)
 
 -- the fields of a record
+abbrev pub record_fields : AddressRecord → Data
+record_fields (records.Workload w) = workload_fields w
+record_fields (records.Service s) = service_fields s
+
 abbrev pub content_fields : Content → Data
-content_fields (address_content (records.Workload w)) = workload_fields w
-content_fields (address_content (records.Service s)) = service_fields s
+content_fields (address_content a) = record_fields a
 content_fields (policy_content p) = policy_fields p
 
 -- a resource held, with the fields of its record

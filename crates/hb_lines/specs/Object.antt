@@ -28,9 +28,13 @@ put_some key (Some value) members = put key value members
 abbrev pub members_as : Object → Members
 members_as o = members_view o.members.entries
 
+-- so do these
+abbrev pub put_members : Members → List (List ℕ × Option Data) → Members
+put_members members more = fold (λ object m. put_some m.0 m.1 object) members more
+
 -- the object of the members that have a value, in byte order of their keys
 abbrev pub object_of : List (List ℕ × Option Data) → Data
-object_of members = object (fold (λ object m. put_some m.0 m.1 object) no_members members)
+object_of members = object (put_members no_members members)
 
 -- an object with one member more, at its place by key
 abbrev pub with_member : List ℕ → Data → Data → Data

@@ -1,6 +1,6 @@
 -- What a rule of a policy asks for, as Istio spells it: a rule is the list of its clauses, which all have to be met, a clause that of its
 -- matches, of which one has to be met.
-use Rattle.std.specs.Prelude.{ℕ, List, [], ◌∷◌, ◌++◌, map, codes, decimal}
+use Rattle.std.specs.Prelude.{ℕ, List, [], ◌∷◌, ◌++◌, Option, map, codes, decimal}
 use Rattle.hb_base.specs.declared.cidr.Cidr.{Cidr}
 use Rattle.hb_base.specs.IpText.{ip_text}
 use Rattle.hb_records.specs.declared.rule.Clause.{Clause}
@@ -31,8 +31,8 @@ abbrev pub cidr_data : Cidr → Data
 cidr_data c = string (cidr_text c)
 
 -- a match: the lists that it has
-abbrev pub match_data : Match → Data
-match_data m = object_of (
+abbrev pub match_members : Match → List (List ℕ × Option Data)
+match_members m =
     (codes "destinationIps", array_member (map cidr_data m.destination_ips)) ∷
     (codes "destinationPorts", array_member (map number_data m.destination_ports)) ∷
     (codes "namespaces", array_member (map string_match_data m.namespaces)) ∷
@@ -42,7 +42,10 @@ match_data m = object_of (
     (codes "notPrincipals", array_member (map string_match_data m.not_principals)) ∷
     (codes "notSourceIps", array_member (map cidr_data m.not_source_ips)) ∷
     (codes "principals", array_member (map string_match_data m.principals)) ∷
-    (codes "sourceIps", array_member (map cidr_data m.source_ips)) ∷ [])
+    (codes "sourceIps", array_member (map cidr_data m.source_ips)) ∷ []
+
+abbrev pub match_data : Match → Data
+match_data m = object_of (match_members m)
 
 abbrev pub clause_data : Clause → Data
 clause_data c = array (items_of (map match_data c.matches))

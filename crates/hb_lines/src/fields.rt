@@ -1,12 +1,13 @@
 //! A resource held, as a line with the fields of its record.
 
-ghost use Rattle.std.specs.Prelude.{◌≡◌, IfOk};
+ghost use Rattle.std.specs.Prelude.{◌≡◌, OnOk, IfOk};
 ghost use Rattle.std.specs.Option.{option_map};
 ghost use Rattle.hb_held.specs.Rows.{content_as, row_as};
 ghost use Rattle.serde_json.specs.View.{view};
 ghost use Rattle.hb_lines.specs.AddressFields.{waypoint_data};
+ghost use Rattle.hb_lines.specs.Object.{members_as, put_members};
 ghost use Rattle.hb_lines.specs.Fields.{protocol_word, status_word, action_name, scope_name};
-ghost use Rattle.hb_lines.specs.Fields.{workload_fields, service_fields, policy_fields, content_fields, fields_data, fields_text};
+ghost use Rattle.hb_lines.specs.Fields.{name_members, state_members, workload_fields, service_fields, policy_fields, record_fields, content_fields, fields_data, fields_text};
 
 use crate::address_fields::{network_addresses, services_value};
 use crate::object::{Object, with_member};
@@ -61,27 +62,41 @@ fn waypoint_value(
     }
 }
 
-fn workload_fields(alloc: Global, workload: &Workload) -> Result<Value, NoMemory>
-    ensures { IfOk result (λ v. view v ≡ workload_fields workload.now) }
+/// Puts the names of a workload.
+fn put_names(workload: &Workload, fields: &mut Object) -> Result<(), NoMemory>
+    ensures { OnOk result (members_as fields.new ≡ put_members (members_as fields.old) (name_members workload.now)) }
 {
-    let services = services_value(alloc, workload.services.as_slice())?;
-    let waypoint = waypoint_value(alloc, &workload.waypoint)?;
-    let policies = workload.authorization_policies.as_slice();
-    let mut fields = Object::new(alloc);
-    fields.put_array("addresses", workload.addresses.as_slice())?;
-    fields.put_array("authorizationPolicies", policies)?;
     fields.put_text("hostname", &workload.hostname)?;
     fields.put_text("name", &workload.name)?;
     fields.put_text("namespace", &workload.namespace)?;
     fields.put_text("network", &workload.network)?;
     fields.put_text("node", &workload.node)?;
-    fields.put_word("protocol", protocol_word(workload.hbone))?;
     fields.put_text("serviceAccount", &workload.service_account)?;
+    fields.put_text("trustDomain", &workload.trust_domain)?;
+    fields.put_text("uid", &workload.uid)
+}
+
+/// Puts what else is said of a workload.
+fn put_state(alloc: Global, workload: &Workload, fields: &mut Object) -> Result<(), NoMemory>
+    ensures { OnOk result (members_as fields.new ≡ put_members (members_as fields.old) (state_members workload.now)) }
+{
+    let policies = workload.authorization_policies.as_slice();
+    let services = services_value(alloc, workload.services.as_slice())?;
+    let waypoint = waypoint_value(alloc, &workload.waypoint)?;
+    fields.put_array("addresses", workload.addresses.as_slice())?;
+    fields.put_array("authorizationPolicies", policies)?;
+    fields.put_word("protocol", protocol_word(workload.hbone))?;
     fields.put_some("services", services)?;
     fields.put_word("status", status_word(workload.healthy))?;
-    fields.put_text("trustDomain", &workload.trust_domain)?;
-    fields.put_text("uid", &workload.uid)?;
-    fields.put_some("waypoint", waypoint)?;
+    fields.put_some("waypoint", waypoint)
+}
+
+fn workload_fields(alloc: Global, workload: &Workload) -> Result<Value, NoMemory>
+    ensures { IfOk result (λ v. view v ≡ workload_fields workload.now) }
+{
+    let mut fields = Object::new(alloc);
+    put_names(workload, &mut fields)?;
+    put_state(alloc, workload, &mut fields)?;
     Ok(fields.into_value())
 }
 
@@ -112,12 +127,20 @@ fn policy_fields(alloc: Global, policy: &Authorization) -> Result<Value, NoMemor
     Ok(fields.into_value())
 }
 
-fn content_fields(alloc: Global, content: &HeldRecord<'_>) -> Result<Value, NoMemory>
-    ensures { IfOk result (λ v. view v ≡ content_fields (content_as content.now)) }
+fn record_fields(alloc: Global, record: &AddressRecord) -> Result<Value, NoMemory>
+    ensures { IfOk result (λ v. view v ≡ record_fields «record».now) }
 {
-    match content {
-        HeldRecord::Address(AddressRecord::Workload(workload)) => workload_fields(alloc, workload),
-        HeldRecord::Address(AddressRecord::Service(service)) => service_fields(alloc, service),
+    match record {
+        AddressRecord::Workload(workload) => workload_fields(alloc, workload),
+        AddressRecord::Service(service) => service_fields(alloc, service),
+    }
+}
+
+fn content_fields(alloc: Global, row: &HeldRow<'_>) -> Result<Value, NoMemory>
+    ensures { IfOk result (λ v. view v ≡ content_fields (content_as row.now.content)) }
+{
+    match row.content {
+        HeldRecord::Address(record) => record_fields(alloc, record),
         HeldRecord::Policy(policy) => policy_fields(alloc, policy),
     }
 }
@@ -126,7 +149,7 @@ fn fields_value(alloc: Global, row: &HeldRow<'_>) -> Result<Value, NoMemory>
     ensures { IfOk result (λ v. view v ≡ fields_data (row_as row.now)) }
 {
     let value = row_value(alloc, row)?;
-    let fields = content_fields(alloc, &row.content)?;
+    let fields = content_fields(alloc, row)?;
     with_member(alloc, "fields", fields, value)
 }
 

@@ -1,9 +1,11 @@
 //! The way of a connection, as a line.
 
-ghost use Rattle.std.specs.Prelude.{◌≡◌, ◌++◌, OnOk, IfOk};
+ghost use Rattle.std.specs.Prelude.{◌≡◌, ◌++◌, string_bytes, OnOk, IfOk};
 ghost use Rattle.std.specs.Option.{option_map};
 ghost use Rattle.hb_route.specs.Answer.{by_gateway, straight, no_way, way_as};
-ghost use Rattle.hb_lines.specs.Way.{is_plain, name_text, endpoint_text, way_text};
+ghost use Rattle.serde_json.specs.Data.{string};
+ghost use Rattle.serde_json.specs.Written.{compact_text};
+ghost use Rattle.hb_lines.specs.Way.{is_plain, is_plain_name, name_text, endpoint_text, way_text};
 
 use crate::value::ToJson;
 use hb_base::{NoMemory, Target, Text, put_target};
@@ -17,15 +19,29 @@ fn is_plain(octet: u8) -> bool
     octet >= 33 && octet <= 126 && octet != b'"' && octet != b'\\'
 }
 
-/// Appends a name: as it is where its octets allow it, else as a string of JSON.
+/// Whether a name stands as it is: it isn't empty, and each of its octets does.
+fn is_plain_name(name: &[u8]) -> bool
+    ensures { result ≡ is_plain_name name.now }
+{
+    !name.is_empty() && name.iter().all(|octet| is_plain(*octet))
+}
+
+/// A text as a string of JSON.
+fn quoted_text(alloc: Global, text: &Text) -> Result<Vec<u8>, NoMemory>
+    ensures { IfOk result (λ quoted. quoted.items ≡ compact_text (string text.now)) }
+{
+    let value = text.to_json(alloc)?;
+    value.to_vec(alloc)
+}
+
+/// Appends a name: as it is where it may stand so, else as a string of JSON.
 fn put_name(alloc: Global, name: &Text, line: &mut Vec<u8>) -> Result<(), NoMemory>
     ensures { OnOk result (line.new.items ≡ line.old.items ++ name_text name.now) }
 {
-    let octets = name.as_slice();
-    if !octets.is_empty() && octets.iter().all(|octet| is_plain(*octet)) {
-        return line.extend_from_slice(octets);
+    if is_plain_name(name.as_slice()) {
+        return line.extend_from_slice(name.as_slice());
     }
-    let quoted = name.to_json(alloc)?.to_vec(alloc)?;
+    let quoted = quoted_text(alloc, name)?;
     line.extend_from_slice(quoted.as_slice())
 }
 
@@ -70,12 +86,12 @@ fn direct_line(alloc: Global, address: Target, endpoint: Option<&Text>) -> Resul
 }
 
 #[tactic(auto, unfolding(crate::specs::Way::way_text))]
-fn refused_line(alloc: Global, why: NoRoute) -> Result<Vec<u8>, NoMemory>
-    ensures { IfOk result (λ line. line.items ≡ way_text (no_way why)) }
+fn refused_text(alloc: Global, why: NoRoute) -> Result<String, NoMemory>
+    ensures { IfOk result (λ text. string_bytes text ≡ way_text (no_way why)) }
 {
     let number = why.number();
     let text = why.text();
-    Ok(format!(in alloc; "no route {number}: {text}\n")?.into_bytes())
+    format!(in alloc; "no route {number}: {text}\n")
 }
 
 /// The way that a connection takes: one line with its newline. A name that is empty, or has an octet that is no visible ASCII, a quote or a
@@ -92,6 +108,6 @@ pub fn way_line(alloc: Global, route: &Route<'_>) -> Result<Vec<u8>, NoMemory>
             endpoint,
         } => gateway_line(alloc, *address, *authority, endpoint),
         Route::Direct { address, endpoint } => direct_line(alloc, *address, *endpoint),
-        Route::Refused(why) => refused_line(alloc, *why),
+        Route::Refused(why) => Ok(refused_text(alloc, *why)?.into_bytes()),
     }
 }
