@@ -1,6 +1,6 @@
 //! `check` and `route`: what they answer by the resources that an input leaves.
 
-ghost use Rattle.std.specs.Prelude.{◌≡◌, ◌++◌, IfOk, OnOk};
+ghost use Rattle.std.specs.Prelude.{◌≡◌, ◌++◌, false, IfOk, OnOk};
 ghost use Rattle.std.specs.List.{flat_map};
 ghost use Rattle.hb_base.specs.Outcome.{Answers};
 ghost use Rattle.hb_held.specs.Policies.{policies_for};
