@@ -73,7 +73,8 @@ fn put_names(workload: &Workload, fields: &mut Object) -> Result<(), NoMemory>
     fields.put_text("node", &workload.node)?;
     fields.put_text("serviceAccount", &workload.service_account)?;
     fields.put_text("trustDomain", &workload.trust_domain)?;
-    fields.put_text("uid", &workload.uid)
+    fields.put_text("uid", &workload.uid)?;
+    Ok(())
 }
 
 /// Puts what else is said of a workload.
