@@ -7,5 +7,4 @@ pub mod RuleFields
 pub mod AddressFields
 pub mod Fields
 pub mod Explained
-
--- pub mod Way
+pub mod Way

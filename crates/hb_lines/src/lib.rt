@@ -10,11 +10,11 @@ mod outcome;
 mod row;
 mod rule_fields;
 mod value;
-// mod way;
+mod way;
 mod why;
 
 pub use explained::explained_line;
 pub use fields::fields_line;
 pub use outcome::outcome_line;
 pub use row::row_line;
-// pub use way::way_line;
+pub use way::way_line;

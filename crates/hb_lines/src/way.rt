@@ -1,6 +1,7 @@
 //! The way of a connection, as a line.
 
 ghost use Rattle.std.specs.Prelude.{◌≡◌, ◌++◌, string_bytes, OnOk, IfOk};
+ghost use Rattle.std.specs.List.{list_all};
 ghost use Rattle.std.specs.Option.{option_map};
 ghost use Rattle.hb_route.specs.Answer.{by_gateway, straight, no_way, way_as};
 ghost use Rattle.serde_json.specs.Data.{string};
@@ -19,11 +20,17 @@ fn is_plain(octet: u8) -> bool
     octet >= 33 && octet <= 126 && octet != b'"' && octet != b'\\'
 }
 
+fn has_plain_octets_alone(name: &[u8]) -> bool
+    ensures { result ≡ list_all is_plain name.now }
+{
+    name.iter().all(|octet| is_plain(*octet))
+}
+
 /// Whether a name stands as it is: it isn't empty, and each of its octets does.
 fn is_plain_name(name: &[u8]) -> bool
     ensures { result ≡ is_plain_name name.now }
 {
-    !name.is_empty() && name.iter().all(|octet| is_plain(*octet))
+    !name.is_empty() && has_plain_octets_alone(name)
 }
 
 /// A text as a string of JSON.
@@ -47,7 +54,7 @@ fn put_name(alloc: Global, name: &Text, line: &mut Vec<u8>) -> Result<(), NoMemo
 
 /// Appends the name of an endpoint, where one is known.
 fn put_endpoint(alloc: Global, endpoint: Option<&Text>, line: &mut Vec<u8>) -> Result<(), NoMemory>
-    ensures { OnOk result (line.new.items ≡ line.old.items ++ endpoint_text (option_map (λ name. name.now) endpoint)) }
+    ensures { OnOk result (line.new.items ≡ line.old.items ++ endpoint_text (option_map (λ name. name.now) endpoint.entry)) }
 {
     let Some(name) = endpoint else {
         return Ok(());
@@ -76,7 +83,7 @@ fn gateway_line(
 
 #[tactic(auto, unfolding(crate::specs::Way::way_text))]
 fn direct_line(alloc: Global, address: Target, endpoint: Option<&Text>) -> Result<Vec<u8>, NoMemory>
-    ensures { IfOk result (λ line. line.items ≡ way_text (straight address (option_map (λ name. name.now) endpoint))) }
+    ensures { IfOk result (λ line. line.items ≡ way_text (straight address (option_map (λ name. name.now) endpoint.entry))) }
 {
     let mut line = Vec::from_slice(alloc, b"direct ")?;
     put_target(alloc, address, &mut line)?;
