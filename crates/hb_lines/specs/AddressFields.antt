@@ -1,5 +1,5 @@
 -- Addresses with their networks, waypoints, and the ports of services.
-use Rattle.std.specs.Prelude.{ℕ, List, [], ◌∷◌, ◌++◌, Option, Some, None, map, codes}
+use Rattle.std.specs.Prelude.{ℕ, List, [], ◌∷◌, Option, Some, None, map, codes}
 use Rattle.std.specs.List.{fold}
 use Rattle.hb_base.specs.IpText.{ip_text}
 use Rattle.hb_held.specs.Endpoints.{joined}

@@ -1,4 +1,5 @@
--- A resource held, as a line of JSON (RFC 8259) that has the fields of its record too, named as Istio names them. What is empty is left out.
+-- A resource held, as a line of JSON (RFC 8259) that has the fields of its record too, named as Istio's API names them. What is empty is
+-- left out.
 use Rattle.std.specs.Prelude.{ℕ, Bool, true, false, List, [], ◌∷◌, ◌++◌, Option, Some, map, codes}
 use Rattle.std.specs.Option.{option_map}
 use Rattle.hb_held.specs.Rows.{Content, address_content, policy_content, Row}

@@ -7,7 +7,8 @@ ghost use Rattle.serde_json.specs.View.{view};
 ghost use Rattle.hb_lines.specs.AddressFields.{waypoint_data};
 ghost use Rattle.hb_lines.specs.Object.{members_as, put_members};
 ghost use Rattle.hb_lines.specs.Fields.{protocol_word, status_word, action_name, scope_name};
-ghost use Rattle.hb_lines.specs.Fields.{name_members, state_members, workload_fields, service_fields, policy_fields, record_fields, content_fields, fields_data, fields_text};
+ghost use Rattle.hb_lines.specs.Fields.{name_members, state_members, workload_fields, service_fields, policy_fields};
+ghost use Rattle.hb_lines.specs.Fields.{record_fields, content_fields, fields_data, fields_text};
 
 use crate::address_fields::{network_addresses, services_value};
 use crate::object::{Object, with_member};
@@ -154,8 +155,8 @@ fn fields_value(alloc: Global, row: &HeldRow<'_>) -> Result<Value, NoMemory>
     with_member(alloc, "fields", fields, value)
 }
 
-/// A resource held, as `row_line` tells it, with one member more, `fields`: the fields of its record, named as Istio names them. What is
-/// empty is left out.
+/// A resource held, as `row_line` tells it, with one member more, `fields`: the fields of its record, named as Istio's API names them. What
+/// is empty is left out.
 ///
 /// Errors: `NoMemory`.
 #[tactic(auto, unfolding(crate::specs::Fields::fields_text))]
