@@ -1,11 +1,13 @@
 #!/usr/bin/python3
 """Compares the tables of tests that scripts here print with the files in which they stand, and names those that differ, and those that
-no test plays. A table whose script lacks a package is not compared, and named.
+no test plays. A table whose script lacks a package is not compared, and named. The scripts run side by side, one on each processor.
 
 usage: bench/tables/tables.py        (all are compared after `apt-get install libnghttp2-14 python3-h2 python3-hpack python3-hyperframe
                               python3-protobuf protobuf-compiler`)
 """
 
+import concurrent.futures
+import os
 import pathlib
 import re
 import shutil
@@ -90,9 +92,9 @@ def unplayed(crate, file):
     return [name for name in re.findall(r"^pub const (\w+)", (folder / file).read_text(), re.M) if not re.search(rf"\b{name}\b", others)]
 
 
-def is_told_same(script, path, is_file):
+def is_told_same(script, printing, path, is_file):
     """Tells whether a file is what its script prints; it counts as the same where the script lacks a package."""
-    printed, lacks = printed_by(script)
+    printed, lacks = printing.result()
     same = printed is None or is_file(printed)
     end = "is what it prints" if same else "DIFFERS from what it prints"
     end = end if printed is not None else f"not compared, since {lacks} isn't here"
@@ -106,10 +108,13 @@ def main():
         for name in unplayed(crate, file):
             print(f"tables: crates/{crate}/src/{file}: no test plays {name}")
             differ += 1
-    for script, crate, file in WHOLE + PARTS:
-        differ += not is_told_same(script, f"crates/{crate}/src/{file}", lambda printed: is_same(script, crate, file, printed))
-    for script, path in [*((script, f"tests/{name}.runs") for script, name in RUNS), *FRAMES]:
-        differ += not is_told_same(script, path, lambda printed: (TOP / path).read_text() == printed)
+    with concurrent.futures.ThreadPoolExecutor(os.cpu_count()) as pool:
+        printing = {script: pool.submit(printed_by, script) for script, *_ in [*RUNS, *FRAMES, *WHOLE, *PARTS]}
+        for script, crate, file in WHOLE + PARTS:
+            place = f"crates/{crate}/src/{file}"
+            differ += not is_told_same(script, printing[script], place, lambda printed: is_same(script, crate, file, printed))
+        for script, path in [*((script, f"tests/{name}.runs") for script, name in RUNS), *FRAMES]:
+            differ += not is_told_same(script, printing[script], path, lambda printed: (TOP / path).read_text() == printed)
     return 1 if differ else 0
 
 
