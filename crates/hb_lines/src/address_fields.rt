@@ -8,8 +8,9 @@ ghost use Rattle.hb_lines.specs.AddressFields.{network_address_text, network_add
 ghost use Rattle.hb_lines.specs.Object.{array_member};
 
 use crate::object::Object;
-use crate::value::{ToJson, array_of, ip_string, str_of};
+use crate::value::{ToJson, array_of, ip_string};
 use hb_base::NoMemory;
+use hb_quote::str_of;
 use hb_records::{GatewayAddress, NetworkAddress, Port, ServicePorts, Waypoint};
 use serde_json::Value;
 use std::alloc::Global;

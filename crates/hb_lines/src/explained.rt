@@ -6,8 +6,9 @@ ghost use Rattle.hb_lines.specs.Explained.{explained_data, explained_text};
 
 use crate::address_fields::joined_text;
 use crate::row::action_word;
-use crate::value::{line_of, str_of};
+use crate::value::line_of;
 use hb_base::NoMemory;
+use hb_quote::str_of;
 use hb_records::Authorization;
 use serde_json::{Value, json};
 use std::alloc::Global;

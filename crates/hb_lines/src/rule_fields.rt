@@ -4,8 +4,9 @@ ghost use Rattle.std.specs.Prelude.{◌≡◌, string_bytes, IfOk};
 ghost use Rattle.hb_lines.specs.RuleFields.{string_match_text, cidr_text};
 
 use crate::object::Object;
-use crate::value::{ToJson, array_of, ip_string, str_of};
+use crate::value::{ToJson, array_of, ip_string};
 use hb_base::{Cidr, NoMemory};
+use hb_quote::str_of;
 use hb_records::{Clause, Match, Rule, StringMatch};
 use serde_json::Value;
 use std::alloc::Global;

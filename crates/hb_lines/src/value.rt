@@ -8,6 +8,7 @@ ghost use Rattle.serde_json.specs.View.{view, items_of};
 ghost use Rattle.serde_json.specs.Written.{compact_text, has_float};
 
 use hb_base::{Ip, NoMemory, Text, put_ip};
+use hb_quote::str_of;
 use hb_records::NetworkAddress;
 use serde_json::Value;
 use std::alloc::Global;
@@ -22,16 +23,6 @@ pub(crate) trait ToJson {
 
     fn to_json(&self, alloc: Global) -> Result<Value, NoMemory>
         ensures { IfOk result (λ v. view v ≡ told self.now) };
-}
-
-/// A text as characters.
-pub(crate) fn str_of(text: &Text) -> &str
-    ensures { result.now ≡ text.now }
-{
-    match std::str::from_utf8(text.as_slice()) {
-        Ok(text) => text,
-        Err(_) => unreachable!(),
-    }
 }
 
 /// The text of an address.

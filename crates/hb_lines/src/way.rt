@@ -1,56 +1,14 @@
 //! The way of a connection, as a line.
 
 ghost use Rattle.std.specs.Prelude.{◌≡◌, ◌++◌, string_bytes, OnOk, IfOk};
-ghost use Rattle.std.specs.List.{list_all};
 ghost use Rattle.std.specs.Option.{option_map};
 ghost use Rattle.hb_route.specs.Answer.{by_gateway, straight, no_way, way_as};
-ghost use Rattle.serde_json.specs.Data.{string};
-ghost use Rattle.serde_json.specs.Written.{compact_text};
-ghost use Rattle.hb_lines.specs.Way.{is_plain, is_plain_name, name_text, endpoint_text, way_text};
+ghost use Rattle.hb_lines.specs.Way.{endpoint_text, way_text};
 
-use crate::value::ToJson;
 use hb_base::{NoMemory, Target, Text, put_target};
+use hb_quote::put_name;
 use hb_route::{NoRoute, Route};
 use std::alloc::Global;
-
-/// Whether an octet of a name stands as it is.
-fn is_plain(octet: u8) -> bool
-    ensures { result ≡ is_plain octet }
-{
-    octet >= 33 && octet <= 126 && octet != b'"' && octet != b'\\'
-}
-
-fn has_plain_octets_alone(name: &[u8]) -> bool
-    ensures { result ≡ list_all is_plain name.now }
-{
-    name.iter().all(|octet| is_plain(*octet))
-}
-
-/// Whether a name stands as it is: it isn't empty, and each of its octets does.
-fn is_plain_name(name: &[u8]) -> bool
-    ensures { result ≡ is_plain_name name.now }
-{
-    !name.is_empty() && has_plain_octets_alone(name)
-}
-
-/// A text as a string of JSON.
-fn quoted_text(alloc: Global, text: &Text) -> Result<Vec<u8>, NoMemory>
-    ensures { IfOk result (λ quoted. quoted.items ≡ compact_text (string text.now)) }
-{
-    let value = text.to_json(alloc)?;
-    value.to_vec(alloc)
-}
-
-/// Appends a name: as it is where it may stand so, else as a string of JSON.
-fn put_name(alloc: Global, name: &Text, line: &mut Vec<u8>) -> Result<(), NoMemory>
-    ensures { OnOk result (line.new.items ≡ line.old.items ++ name_text name.now) }
-{
-    if is_plain_name(name.as_slice()) {
-        return line.extend_from_slice(name.as_slice());
-    }
-    let quoted = quoted_text(alloc, name)?;
-    line.extend_from_slice(quoted.as_slice())
-}
 
 /// Appends the name of an endpoint, where one is known.
 fn put_endpoint(alloc: Global, endpoint: Option<&Text>, line: &mut Vec<u8>) -> Result<(), NoMemory>
