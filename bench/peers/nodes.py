@@ -73,6 +73,7 @@ def denied_by_the_far_node(room):
     says(client)
     room.proxy.noted(f"verdict 200 {SOURCE} - {HERE}:{up.port}", f"verdict 502 {OTHER_SOURCE} - {HERE}:{up.port}")
     far.proxy.noted(f"verdict 200 {SOURCE} {CALLER_NAME} {HERE}:{up.port}", f"verdict 401 {OTHER_SOURCE} {OTHER_NAME} {HERE}:{up.port}")
+    wanted("the reasons", far.proxy.reasons(), ["none_allows=1"])
     wanted("connections at the upstream", len(up.taken), 1)
 
 
@@ -91,6 +92,7 @@ def revoked_by_the_far_node(room):
     let_in = f"verdict 200 {SOURCE} {CALLER_NAME} {HERE}:{up.port}"
     refused = f"verdict 401 {SOURCE} {CALLER_NAME} {HERE}:{up.port}"
     far.proxy.noted(let_in, "end revoked up 5 down 5", refused, f"verdict 200 {OTHER_SOURCE} {OTHER_NAME} {HERE}:{up.port}")
+    wanted("the reasons", far.proxy.reasons(), ["none_allows=1"])
     wanted("the near end", room.proxy.notes()[1], "end peer reset 8 up 5 down 5")
 
 

@@ -129,6 +129,10 @@ class Proxy:
             time.sleep(0.01)
         wanted("the notes", self.notes(), list(notes))
 
+    def reasons(self):
+        """The lines of its reasons, without the numbers of link and stream."""
+        return [line.split(" ", 2)[2] for line in self.told() if line.startswith("why ")]
+
     def cpu(self):
         """The processor seconds that it took, of its own and of the system's."""
         fields = pathlib.Path(f"/proc/{self.process.pid}/stat").read_text().rpartition(") ")[2].split()

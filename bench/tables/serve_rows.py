@@ -16,7 +16,7 @@ import routes
 import tunnel_model
 from spelling import number, span, text, workload
 from tunnel_rows import ACK, ADMITTED, ANSWER, CANCEL, CONNECT_ERROR, FIRST, FIRST_RESPONSE, NO_ERROR, OPENING, OWN, PEER, REFUSED_400
-from tunnel_rows import REFUSED_503, SECOND_RESPONSE, SET, UPDATE, data, frame, goaway, headers, reset
+from tunnel_rows import REFUSED_401, REFUSED_503, SECOND_RESPONSE, SET, UPDATE, data, frame, goaway, headers, reset
 
 sys.path.insert(0, str(pathlib.Path(__file__).resolve().parents[2] / "tests"))
 
@@ -97,6 +97,7 @@ TABLE = [
     ("ADMITTED", "The program's answer 200 on stream 1, the first of the link.", headers(1, FIRST + ADMITTED)),
     ("REFUSED", "The program's answer 400 on stream 1, the first of the link, and the reset behind it.",
      headers(1, FIRST + REFUSED_400, True) + reset(1, NO_ERROR)),
+    ("UNADMITTED", "The same with 401.", headers(1, FIRST + REFUSED_401, True) + reset(1, NO_ERROR)),
     ("REVOKED", "Stream 1 is reset, as a tunnel is that is revoked.", reset(1, CANCEL)),
     ("BROKEN", "Stream 1 is reset, as a tunnel is whose upstream broke.", reset(1, CONNECT_ERROR)),
     ("HELLO", "DATA on stream 1.", data(1, b"hello")),

@@ -8,6 +8,7 @@ use Rattle.hb_audit.specs.Held.{followed_by, held_after}
 use Rattle.hb_audit.specs.HeldBy.{answers_by}
 use Rattle.hb_audit.specs.Laws.{StandIn, followed_by_all, LeftHoldAll, AllStay}
 use Rattle.hb_audit.specs.Tells.{Answering, left_by, TellsOne, Tells}
+use Rattle.hb_audit.specs.Told.{Told, notes_of}
 
 StandIn-same : {A : Type 0} (xs : List A) → StandIn xs xs
 StandIn-same [] = tt
@@ -49,30 +50,31 @@ none_next (None ∷ old) = ap (λ l. None ∷ l) (none_next old)
 none_next (Some before ∷ old) = ap (λ b. Some b ∷ old) (sym (append-nil before)) ∙ ap (λ l. Some (before ++ []) ∷ l) (none_next old)
 
 -- of no audits none is left
-pub none_come : {B : Type 0} (answers : Answering B) (new : List B) (told : List Note) → Tells answers [] new told → new ≡ []
+pub none_come : {B : Type 0} (answers : Answering B) (new : List B) (told : List Told) → Tells answers [] new told → new ≡ []
 none_come answers new [] t = t
 none_come {B} answers new (n ∷ told) t =
     none_come answers new told (subst (λ (l : List B). Tells answers l new told) t.1 t.2)
 
 module _ {B : Type 0} (notes : B → Option (List Note)) (answers : Answering B) where
-  abbrev pub Answers : B → Note → Noted → B → Type 0
+  abbrev pub Answers : B → Told → Noted → B → Type 0
   Answers = answers_by notes answers
 
   -- those that are left by their answers
-  left_one : (a : Noted) (n : Note) (b c : B) (others olds : List B) → notes c ≡ held_after (notes b) n a
-      → StandIn (map notes others) (map (followed_by n) (map notes olds))
-      → StandIn (map notes (left_by a c others)) (map (followed_by n) (map notes (b ∷ olds)))
+  left_one : (a : Noted) (n : Told) (b c : B) (others olds : List B) → notes c ≡ held_after (notes b) n.note a
+      → StandIn (map notes others) (map (followed_by n.note) (map notes olds))
+      → StandIn (map notes (left_by a c others)) (map (followed_by n.note) (map notes (b ∷ olds)))
   left_one Kept n b c others olds holds stand = inl (holds, stand)
   left_one Failed n b c others olds holds stand =
-      StandIn-skip (map notes others) (map (followed_by n) (map notes olds)) (followed_by n (notes b)) stand
+      StandIn-skip (map notes others) (map (followed_by n.note) (map notes olds)) (followed_by n.note (notes b)) stand
   left_one NoMemory n b c others olds holds stand =
-      StandIn-skip (map notes others) (map (followed_by n) (map notes olds)) (followed_by n (notes b)) stand
+      StandIn-skip (map notes others) (map (followed_by n.note) (map notes olds)) (followed_by n.note (notes b)) stand
 
-  left_stand : (old new : List B) (n : Note) → TellsOne Answers old new n → StandIn (map notes new) (map (followed_by n) (map notes old))
+  left_stand : (old new : List B) (n : Told) → TellsOne Answers old new n
+      → StandIn (map notes new) (map (followed_by n.note) (map notes old))
   left_stand [] new n told = subst (λ (l : List B). StandIn (map notes l) []) (sym told) tt
   left_stand (b ∷ old) new n told =
       let gave = told.0 in
-      subst (λ (l : List B). StandIn (map notes l) (map (followed_by n) (map notes (b ∷ old)))) (sym told.1)
+      subst (λ (l : List B). StandIn (map notes l) (map (followed_by n.note) (map notes (b ∷ old)))) (sym told.1)
       (left_one gave.answer n b gave.after gave.others old gave.own.1 (left_stand old gave.others n told.2))
 
   pub left_hold_all : LeftHoldAll notes answers
@@ -80,13 +82,14 @@ module _ {B : Type 0} (notes : B → Option (List Note)) (answers : Answering B)
       subst (StandIn (map notes new)) (ap (map notes) t ∙ none_next (map notes old)) (StandIn-same (map notes new))
   left_hold_all old new (n ∷ told) t =
       let held = map notes old in
-      subst (StandIn (map notes new)) (all_next n told held)
-      (StandIn-trans (map notes new) (map (followed_by_all told) (map notes t.0)) (map (followed_by_all told) (map (followed_by n) held))
+      let behind = followed_by_all (notes_of told) in
+      subst (StandIn (map notes new)) (all_next n.note (notes_of told) held)
+      (StandIn-trans (map notes new) (map behind (map notes t.0)) (map behind (map (followed_by n.note) held))
       (left_hold_all t.0 new told t.2)
-      (StandIn-map (followed_by_all told) (map notes t.0) (map (followed_by n) held) (left_stand old t.0 n t.1)))
+      (StandIn-map behind (map notes t.0) (map (followed_by n.note) held) (left_stand old t.0 n t.1)))
 
   -- where each answer is that the note is kept, all are left
-  all_kept : ((b : B) (n : Note) (a : Noted) (c : B) → answers b n a c → a ≡ Kept) → (old new : List B) (n : Note)
+  all_kept : ((b : B) (n : Told) (a : Noted) (c : B) → answers b n a c → a ≡ Kept) → (old new : List B) (n : Told)
       → TellsOne Answers old new n → length new ≡ length old
   all_kept keeps [] new n told = ap length told
   all_kept keeps (b ∷ old) new n told =

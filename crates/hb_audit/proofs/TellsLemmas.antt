@@ -1,13 +1,14 @@
 -- Audits to which notes are told, one after the other.
-use Rattle.std.proofs.Common.{◌≡◌, ℕ, suc, ◌+◌, ◌<◌, ◌≤◌, List, [], ◌∷◌, ◌++◌, length, take, drop, set, get_or, refl, sym, ap, ap₂, ◌∙◌, subst, append-nil, length-take, arith}
+use Rattle.std.proofs.Common.{◌≡◌, ℕ, suc, ◌+◌, ◌<◌, ◌≤◌, List, [], ◌∷◌, ◌++◌, length, take, drop, set, get_or}
+use Rattle.std.proofs.Common.{refl, sym, ap, ap₂, ◌∙◌, subst, append-nil, length-take, arith}
 use Rattle.std.specs.Prelude.{◌⊎◌}
 use Rattle.std.specs.List.{remove}
 use Rattle.std.proofs.lemmas.List.{take_more, take_more_set, take-set, drop_more, drop-set-lt, length-drop, take_all}
 use Rattle.std.proofs.Math.Seq.{take-append_seam, drop-append_seam}
-use Rattle.hb_base.specs.declared.note.Note.{Note}
 use Rattle.hb_audit.specs.declared.audit.Noted.{Noted}
 use Rattle.hb_audit.specs.declared.audit.Noted.TheVariants.{Kept, Failed, NoMemory}
 use Rattle.hb_audit.specs.Tells.{Answering, left_by, TellsOne, Tells}
+use Rattle.hb_audit.specs.Told.{Told}
 
 -- what stands at a place from which on both lists are the same
 at_same : {B : Type 0} (olds news : List B) (i k : ℕ) (b : B) → drop i news ≡ drop k olds → i < length news → b ≡ get_or news i b
@@ -44,7 +45,7 @@ without news i c within =
 
 module _ {B : Type 0} (answers : Answering B) where
   -- one more audit answers, and is c then
-  tells_next : (olds left : List B) (n : Note) (a : Noted) (b c : B) → TellsOne answers olds left n → answers b n a c
+  tells_next : (olds left : List B) (n : Told) (a : Noted) (b c : B) → TellsOne answers olds left n → answers b n a c
       → TellsOne answers (olds ++ b ∷ []) (left ++ left_by a c []) n
   tells_next [] left n a b c told own =
       (record { answer = a; after = c; own = own; others = [] }, ap (λ (l : List B). l ++ left_by a c []) told, refl)
@@ -55,7 +56,7 @@ module _ {B : Type 0} (answers : Answering B) where
         tells_next olds gave.others n a b c told.2 own,
       )
 
-  module _ (olds news : List B) (i k : ℕ) (n : Note) (told : TellsOne answers (take k olds) (take i news) n) where
+  module _ (olds news : List B) (i k : ℕ) (n : Told) (told : TellsOne answers (take k olds) (take i news) n) where
     -- the audit that is told next, as it stood, answers
     told_more : (b c : B) (a : Noted) → drop i news ≡ drop k olds → i < length news → b ≡ get_or news i b → answers b n a c
         → TellsOne answers (take (k + 1) olds) (take i news ++ left_by a c []) n
@@ -100,7 +101,7 @@ module _ {B : Type 0} (answers : Answering B) where
         (subst (λ (xs : List B). TellsOne answers (take k olds) xs n) (take_all i news new_end) told)
 
   -- one more note is told behind the others
-  pub tells_more : (old between new : List B) (notes : List Note) (n : Note) → Tells answers old between notes
+  pub tells_more : (old between new : List B) (notes : List Told) (n : Told) → Tells answers old between notes
       → TellsOne answers between new n → Tells answers old new (notes ++ n ∷ [])
   tells_more old between new [] n t one = (new, subst (λ (audits : List B). TellsOne answers audits new n) t one, refl)
   tells_more old between new (m ∷ notes) n t one = (t.0, t.1, tells_more t.0 between new notes n t.2 one)

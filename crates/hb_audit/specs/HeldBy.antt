@@ -13,6 +13,6 @@ each a = a.audits.items
 abbrev pub held_by : {A : Type 0} → (A → Option (List Note)) → Audits A → List (Option (List Note))
 held_by notes a = map notes (each a)
 
--- what an audit may answer to a note, and what it is after: its own, and it holds what this answer says
+-- what an audit may answer to what it is told, and what it is after: its own, and it holds what this answer says of the note
 abbrev pub answers_by : {A : Type 0} → (A → Option (List Note)) → Answering A → Answering A
-answers_by notes answers a n answer after = answers a n answer after × (notes after ≡ held_after (notes a) n answer)
+answers_by notes answers a t answer after = answers a t answer after × (notes after ≡ held_after (notes a) t.note answer)

@@ -5,3 +5,4 @@ pub mod Laws
 pub mod MemAudit
 pub mod Refused
 pub mod Tells
+pub mod Told

@@ -5,6 +5,7 @@ use Rattle.hb_base.specs.declared.note.Note.{Note}
 use Rattle.hb_audit.specs.declared.audit.Noted.{Noted}
 use Rattle.hb_audit.specs.declared.audit.Noted.TheVariants.{Kept, Failed, NoMemory}
 use Rattle.hb_audit.specs.Held.{has_failed}
+use Rattle.hb_audit.specs.Told.{Told}
 
 -- the notes that it holds, how many fit, the number of the call that is to fail, how many calls came and how many failed
 pub record Auditing : Type 0 where
@@ -28,6 +29,6 @@ after_note a n Kept = record a { notes = a.notes ++ n ∷ []; calls = one_more a
 after_note a n Failed = record a { calls = one_more a.calls; faults = one_more a.faults }
 after_note a n NoMemory = record a { calls = one_more a.calls }
 
--- it answers that it failed exactly where the next call fails; else it kept the note or had no memory for it
-abbrev pub answers_so : Auditing → Note → Noted → Auditing → Type 0
-answers_so a n answer after = (has_failed answer ≡ fails a) × (after ≡ after_note a n answer)
+-- it answers that it failed exactly where the next call fails; else it kept the note or had no memory for it; reasons it lets go
+abbrev pub answers_so : Auditing → Told → Noted → Auditing → Type 0
+answers_so a t answer after = (has_failed answer ≡ fails a) × (after ≡ after_note a t.note answer)

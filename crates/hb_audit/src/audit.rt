@@ -1,5 +1,6 @@
 //! What takes notes.
 
+use crate::reason::Reason;
 use hb_base::Note;
 
 /// What an audit answers to a note.
@@ -20,6 +21,7 @@ pub trait Audit: Drop {
     ghost use Rattle.hb_base.specs.declared.note.Note.{Note};
     ghost use Rattle.hb_audit.specs.declared.audit.Noted.{Noted};
     ghost use Rattle.hb_audit.specs.Held.{held_after, has_failed, note_at};
+    ghost use Rattle.hb_audit.specs.Told.{Told, told_of};
 
     /// The notes that it holds, in the order in which they came, where it tells them.
     ghost notes: { Self → Option (List Note) };
@@ -27,12 +29,12 @@ pub trait Audit: Drop {
     /// How often it failed.
     ghost faults: { Self → ℕ };
 
-    /// Which answers it may give to a note, as it stands, and what it is then.
-    ghost answers: { Self → Note → Noted → Self → Type 0 };
+    /// Which answers it may give to a note with its reason, as it stands, and what it is then.
+    ghost answers: { Self → Told → Noted → Self → Type 0 };
 
-    /// Takes a note.
-    fn note(&mut self, n: &Note) -> Noted
-        ensures own { answers self.old n.now result self.new }
+    /// Takes a note, and why the peer was denied, where it was.
+    fn note(&mut self, n: &Note, reason: Option<Reason<'_>>) -> Noted
+        ensures own { answers self.old (told_of n.now reason.entry) result self.new }
         ensures held { notes self.new ≡ held_after (notes self.old) n.now result }
         ensures later { faults self.old ≤ faults self.new }
         ensures counts { Counts (faults self.old) (faults self.new) (has_failed result) };

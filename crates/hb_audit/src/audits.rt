@@ -5,8 +5,10 @@ ghost use Rattle.std.specs.Option.{option_and_then};
 ghost use Rattle.hb_audit.specs.Held.{note_at};
 ghost use Rattle.hb_audit.specs.HeldBy.{each, held_by, answers_by};
 ghost use Rattle.hb_audit.specs.Tells.{TellsOne};
+ghost use Rattle.hb_audit.specs.Told.{told_of};
 
 use crate::audit::{Audit, Noted};
+use crate::reason::Reason;
 use hb_base::Note;
 use std::alloc::Global;
 
@@ -58,15 +60,15 @@ impl<A: Audit> Audits<A> {
         }
     }
 
-    /// Tells each audit a note. One that did not keep it is dropped; the others stay in their order. How many were dropped.
-    pub fn tell(&mut self, n: &Note) -> usize
-        ensures one { TellsOne (answers_by A.notes A.answers) (each self.old) (each self.new) n.now }
+    /// Tells each audit a note, with its reason. One that did not keep it is dropped; the others stay in order. How many were dropped.
+    pub fn tell(&mut self, n: &Note, reason: Option<Reason<'_>>) -> usize
+        ensures one { TellsOne (answers_by A.notes A.answers) (each self.old) (each self.new) (told_of n.now reason.entry) }
         ensures dropped { length (each self.new) + result ≡ length (each self.old) }
     {
         let mut dropped = 0;
         let mut at = 0;
         while at < self.audits.len() {
-            match self.audits[at].note(n) {
+            match self.audits[at].note(n, reason) {
                 Noted::Kept => at += 1,
                 Noted::Failed | Noted::NoMemory => {
                     self.audits.remove(at);

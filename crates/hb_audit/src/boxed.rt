@@ -1,6 +1,7 @@
 //! A boxed audit.
 
 use crate::audit::{Audit, Noted};
+use crate::reason::Reason;
 use hb_base::Note;
 
 /// What the audit inside does.
@@ -11,10 +12,10 @@ impl Audit for Box<dyn Audit> {
 
     ghost faults = { λ b. (Audit-box b).faults b.value };
 
-    ghost answers = { λ b n answer after. HoldsThen b ((Audit-box b).answers b.value n answer) after };
+    ghost answers = { λ b t answer after. HoldsThen b ((Audit-box b).answers b.value t answer) after };
 
-    fn note(&mut self, n: &Note) -> Noted {
-        (**self).note(n)
+    fn note(&mut self, n: &Note, reason: Option<Reason<'_>>) -> Noted {
+        (**self).note(n, reason)
     }
 
     fn holds(&self, place: usize, n: &Note) -> bool {

@@ -6,8 +6,10 @@ mod audits;
 mod boxed;
 pub mod laws;
 mod mem_audit;
+mod reason;
 mod same;
 
 pub use audit::{Audit, Noted};
 pub use audits::Audits;
 pub use mem_audit::MemAudit;
+pub use reason::Reason;

@@ -4,8 +4,10 @@ ghost use Rattle.std.specs.Prelude.{◌≡◌, ◌≤◌, ◌↔◌, [], Some, I
 ghost use Rattle.hb_base.specs.Count.{Counts};
 ghost use Rattle.hb_audit.specs.Held.{held_after, has_failed, note_at};
 ghost use Rattle.hb_audit.specs.MemAudit.{Auditing, answers_so};
+ghost use Rattle.hb_audit.specs.Told.{told_of};
 
 use crate::audit::{Audit, Noted};
+use crate::reason::Reason;
 use crate::same::is_same_note;
 use hb_base::{List, Note};
 use std::alloc::Global;
@@ -69,11 +71,11 @@ impl Audit for MemAudit {
 
     ghost faults = { λ a. a.faults };
 
-    ghost answers = { λ a n answer after. answers_so a n answer after };
+    ghost answers = { λ a t answer after. answers_so a t answer after };
 
-    /// Keeps a copy of the note, unless the call is the one that fails or there is no room.
-    fn note(&mut self, n: &Note) -> Noted
-        ensures own { answers_so self.old n.now result self.new }
+    /// Keeps a copy of the note, unless the call is the one that fails or there is no room. Reasons it lets go.
+    fn note(&mut self, n: &Note, reason: Option<Reason<'_>>) -> Noted
+        ensures own { answers_so self.old (told_of n.now reason.entry) result self.new }
         ensures held { Some self.new.notes ≡ held_after (Some self.old.notes) n.now result }
         ensures later { self.old.faults ≤ self.new.faults }
         ensures counts { Counts self.old.faults self.new.faults (has_failed result) }

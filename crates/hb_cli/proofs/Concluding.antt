@@ -8,7 +8,6 @@ use Rattle.hb_words.specs.Command.{Command, Replay, Route, checks, routes, shows
 use Rattle.hb_words.specs.declared.asks.Show.{Show}
 use Rattle.hb_words.specs.declared.fault.WordsFault.{WordsFault}
 use Rattle.hb_cli.specs.Replaying.{RunState, done_in, DoneLawfully}
-use Rattle.hb_turns.specs.Notes.{held}
 use Rattle.hb_cli.specs.declared.answer.Answer.{Answer}
 use Rattle.hb_cli.specs.declared.answer.Answer.TheVariants.{Judged, Told, Left, Replayed}
 use Rattle.hb_cli.specs.declared.answer.Printed.{Printed}
@@ -58,7 +57,7 @@ module _ {A : Type 0} {own : Answering A} (input out err : Use) (w : WorldUse ow
 
   -- what was found leaves as it was what the command leaves so
   stays_by : (c : Command) (result : Result Answer Stop) → LeavesBy c input.bytes before left result
-      → HearsBy c w.heard (held left.keep) result → NoneFalls input out err → Stays (run_of c)
+      → HearsBy c w.heard (done_in left) result → NoneFalls input out err → Stays (run_of c)
   stays_by (checks q) result leaves hears later = stays_still (run_of (checks q)) leaves hears later
   stays_by (routes w) result leaves hears later = stays_still (run_of (routes w)) leaves hears later
   stays_by (shows s) result leaves hears later = stays_still (run_of (shows s)) leaves hears later
@@ -74,7 +73,7 @@ module _ {A : Type 0} {own : Answering A} (input out err : Use) (w : WorldUse ow
   stays_by (prints p) result leaves hears later = stays_still (run_of (prints p)) leaves hears later
 
   replay_idle : (p : Replay) (stop : Stop) → stop ≢ NoMemory → Leaves p input.bytes left (Err stop)
-      → HearsBy (replays p) w.heard (held left.keep) (Err stop) → DoesNothing (run_of (replays p))
+      → HearsBy (replays p) w.heard (done_in left) (Err stop) → DoesNothing (run_of (replays p))
   replay_idle p (Words fault) other leaves hears = (leaves, hears)
   replay_idle p TooLong other leaves hears = (leaves, hears)
   replay_idle p (Refused refusal) other leaves hears = (leaves, hears)
@@ -83,7 +82,7 @@ module _ {A : Type 0} {own : Answering A} (input out err : Use) (w : WorldUse ow
 
   -- where there is no answer, want of memory aside, nothing was done
   does_nothing : (c : Command) (stop : Stop) → before.script.trace ≡ [] → stop ≢ NoMemory → LeavesBy c input.bytes before left (Err stop)
-      → HearsBy c w.heard (held left.keep) (Err stop) → DoesNothing (run_of c)
+      → HearsBy c w.heard (done_in left) (Err stop) → DoesNothing (run_of c)
   does_nothing (checks q) stop none other leaves hears = (ap (λ (s : RunState). s.script.trace) leaves ∙ none, hears)
   does_nothing (routes w) stop none other leaves hears = (ap (λ (s : RunState). s.script.trace) leaves ∙ none, hears)
   does_nothing (shows w) stop none other leaves hears = (ap (λ (s : RunState). s.script.trace) leaves ∙ none, hears)
@@ -124,7 +123,7 @@ module _ {A : Type 0} {own : Answering A} (input out err : Use) (w : WorldUse ow
 
   -- the answer is one of the command
   gives : (c : Command) (a : Answer) → Suits c a → LooksAt (Ok c) (done_in left) input (Ok (answer_text a))
-      → LeavesBy c input.bytes before left (Ok a) → HearsBy c w.heard (held left.keep) (Ok a)
+      → LeavesBy c input.bytes before left (Ok a) → HearsBy c w.heard (done_in left) (Ok a)
       → Gives c (run_of c) (end_of a) (answer_text a)
   gives (checks q) (Judged judged) suits looks leaves hears = (refl, looks)
   gives (checks q) (Told text) suits looks leaves hears = (refl, looks)
@@ -162,13 +161,13 @@ module _ {A : Type 0} {own : Answering A} (input out err : Use) (w : WorldUse ow
   module _ (c : Command) (takes : IsTrue (takes_input (Ok c))) (later : NoneFalls input out err) where
     -- memory lacked before anything was printed
     lacked : (stop : Stop) (status : ℕ) → status ≡ 9 → NoFault input → Untouched out → Tells err (stop_line NoMemory)
-        → LeavesBy c input.bytes before left (Err stop) → HearsBy c w.heard (held left.keep) (Err stop) → EndsWith (run_of c) status
+        → LeavesBy c input.bytes before left (Err stop) → HearsBy c w.heard (done_in left) (Err stop) → EndsWith (run_of c) status
     lacked stop status nine well quiet told leaves hears =
         ends_at (run_of c) 9 status nine (stays_by c (Err stop) leaves hears later) (well, inl quiet, told, broken c stop takes leaves)
 
     -- there is no answer, and that was told
     pub gave_up : (stop : Stop) (status : ℕ) → before.script.trace ≡ [] → ComesTo (Ok c) (done_in left) input (Err stop) → Untouched out
-        → LeavesBy c input.bytes before left (Err stop) → HearsBy c w.heard (held left.keep) (Err stop) → GivesUp stop err status
+        → LeavesBy c input.bytes before left (Err stop) → HearsBy c w.heard (done_in left) (Err stop) → GivesUp stop err status
         → EndsWith (run_of c) status
     gave_up (Words fault) status none found quiet leaves hears told = let never = found.0 in absurd cc
     gave_up TooLong status none found quiet leaves hears (inl told) =
@@ -188,7 +187,7 @@ module _ {A : Type 0} {own : Answering A} (input out err : Use) (w : WorldUse ow
     gave_up NoMemory status none found quiet leaves hears (inr told) = let never = told.0 in absurd cc
 
     module _ (a : Answer) (suits : Suits c a) (looks : LooksAt (Ok c) (done_in left) input (Ok (answer_text a)))
-        (leaves : LeavesBy c input.bytes before left (Ok a)) (hears : HearsBy c w.heard (held left.keep) (Ok a)) where
+        (leaves : LeavesBy c input.bytes before left (Ok a)) (hears : HearsBy c w.heard (done_in left) (Ok a)) where
       -- it was printed whole
       pub printed_whole : (status : ℕ) → WritesAll out (answer_text a) → EndsRun (end_of a) err status → EndsWith (run_of c) status
       printed_whole status writes told =

@@ -32,12 +32,13 @@ module _ {A : Type 0} {own : Answering A} (m : Make) (h : Heard own) (left : Run
 
   pub run_printed : (r : Replay) (lines : List Line) (end : ReplayEnd) (text : List ℕ) (status : ℕ) → r ≡ made_run
       → lines ≡ lines_made m.count
-      → (left.script.lines ≡ lines) × IsRun r end (done_in left) × (text ≡ report_of r (done_in left)) → HearsAll h (done_in left).notes
+      → (left.script.lines ≡ lines) × IsRun r end (done_in left) × (text ≡ report_of r (done_in left)) → HearsAll r h (done_in left)
       → PrintsRun end text out err status → RunsAt m h left out err status
   run_printed r lines end text status same are ran tells p =
-      let at : IsRun made_run end (done_in left) × (text ≡ report_of made_run (done_in left))
-      = subst (λ (q : Replay). IsRun q end (done_in left) × (text ≡ report_of q (done_in left))) same (ran.1, ran.2)
-      in printed_at end status (ran.0 ∙ are, at.0, tells) (subst (λ (t : List ℕ). PrintsRun end t out err status) at.1 p)
+      let at : IsRun made_run end (done_in left) × (text ≡ report_of made_run (done_in left)) × HearsAll made_run h (done_in left)
+      = subst (λ (q : Replay). IsRun q end (done_in left) × (text ≡ report_of q (done_in left)) × HearsAll q h (done_in left)) same
+      (ran.1, ran.2, tells)
+      in printed_at end status (ran.0 ∙ are, at.0, at.2) (subst (λ (t : List ℕ). PrintsRun end t out err status) at.1 p)
 
 -- Its table and the endings of a run say the same of it
 module _ {A : Type 0} {own : Answering A} (m : Make) (r : Run own) (asks : r.asked ≡ Ok (makes m)) where

@@ -1,7 +1,8 @@
 -- A run over a script, from what is said of it where it is served.
-use Rattle.std.proofs.Common.{◌≡◌, ℕ, Bool, true, false, ◌||◌, if◌then◌else◌, List, Option, Some, None, inl, inr, refl, sym, subst, ap, ap₂, ◌∙◌}
+use Rattle.std.proofs.Common.{◌≡◌, ℕ, Bool, true, false, ◌||◌, if◌then◌else◌, List, Option, Some, None}
+use Rattle.std.proofs.Common.{inl, inr, refl, sym, subst, ap, ap₂, ◌∙◌}
 use Rattle.std.specs.Option.{is_some}
-use Rattle.hb_audit.specs.Tells.{Answering, Tells}
+use Rattle.hb_audit.specs.Tells.{Answering}
 use Rattle.hb_base.specs.declared.note.Note.{Note}
 use Rattle.hb_world.specs.declared.entry.Entry.{Entry}
 use Rattle.hb_turns.specs.Notes.{held, Holds}
@@ -11,6 +12,7 @@ use Rattle.hb_turns.specs.declared.served.Totals.{Totals}
 use Rattle.hb_turns.specs.declared.served.ServeEnd.{ServeEnd}
 use Rattle.hb_turns.specs.declared.served.ServeEnd.TheVariants as ends
 use Rattle.hb_report.specs.Report.{report}
+use Rattle.hb_reason.specs.Reasons.{Hear}
 use Rattle.hb_serve.specs.Served.{IsServed, Heard, AreTold, Serves}
 use Rattle.hb_serve.specs.declared.words.ServeWords.{ServeWords}
 use Rattle.hb_words.specs.Command.{Replay}
@@ -49,7 +51,7 @@ module _ (told : Served) (end : ReplayEnd) (ended : ended_as told ≡ Some end) 
     runs : {A : Type 0} {own : Answering A} (served : IsServed words told keep trace) (heard : Heard own)
         → AreTold words told keep trace served heard
         → (notes : List Note) × Holds keep notes × RunsAs words told keep end (done_with trace notes)
-        × Tells own heard.before heard.after notes
+        × Hear own words.config trace heard.before heard.after notes
     runs served heard are_told =
         let t = served.noted lacks_none keeps_all in (
           t.notes,
@@ -67,26 +69,28 @@ module _ (told : Served) (end : ReplayEnd) (ended : ended_as told ≡ Some end) 
 
     pub ran : {A : Type 0} {own : Answering A} (heard : Heard own) → Serves words told keep heard trace
         → (notes : List Note) × Holds keep notes × RunsAs words told keep end (done_with trace notes)
-        × Tells own heard.before heard.after notes
+        × Hear own words.config trace heard.before heard.after notes
     ran heard (inl lacks) = absurd (lacks_none lacks.0.end)
     ran heard (inr served) = runs served.0 heard served.1
 
 kept : {A : Type 0} {own : Answering A} (r : Replay) (end : ReplayEnd) (trace : List Entry) (keep : Option (List Note))
     (heard : Heard own) (told : Served) → is_some keep ≡ true
     → ((notes : List Note) × Holds keep notes × RunsAs (words_of r.run None) told keep end (done_with trace notes)
-    × Tells own heard.before heard.after notes)
-    → IsRun r end (done_by trace keep) × (told.totals ≡ totals_of trace (held keep)) × Tells own heard.before heard.after (held keep)
+    × Hear own (words_of r.run None).config trace heard.before heard.after notes)
+    → IsRun r end (done_by trace keep) × (told.totals ≡ totals_of trace (held keep))
+    × Hear own (words_of r.run None).config trace heard.before heard.after (held keep)
 kept r end trace None heard told some run = absurd (cc)
 kept {A} {own} r end trace (Some notes) heard told some run =
     let same = sym run.1 in
     let is = subst (λ (ns : List Note). RunsAs (words_of r.run None) told (Some notes) end (done_with trace ns)) same run.2 in
-    ((told, is), is.totals, subst (λ (ns : List Note). Tells own heard.before heard.after ns) same run.3)
+    ((told, is), is.totals, subst (λ (ns : List Note). Hear own (words_of r.run None).config trace heard.before heard.after ns) same run.3)
 
 -- a run over a script, whose notes are kept and told, and its totals
 pub replayed : {A : Type 0} {own : Answering A} (r : Replay) (end : ReplayEnd) (trace : List Entry) (keep : Option (List Note))
     (heard : Heard own) (told : Served)
     (asked : ServeWords) → asked ≡ words_of r.run None → Serves asked told keep heard trace → ended_as told ≡ Some end → is_some keep ≡ true
-    → IsRun r end (done_by trace keep) × (told.totals ≡ totals_of trace (held keep)) × Tells own heard.before heard.after (held keep)
+    → IsRun r end (done_by trace keep) × (told.totals ≡ totals_of trace (held keep))
+    × Hear own (words_of r.run None).config trace heard.before heard.after (held keep)
 replayed r end trace keep heard told asked is serves ended some =
     kept r end trace keep heard told some
     (ran told end ended (words_of r.run None) keep trace heard (subst (λ (w : ServeWords). Serves w told keep heard trace) is serves))

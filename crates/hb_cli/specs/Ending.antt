@@ -3,7 +3,6 @@ use Rattle.std.specs.Prelude.{⊤, ◌≡◌, ◌⊎◌, ℕ, ◌≤◌, false, 
 use Rattle.std.specs.Bool.{MatchBool}
 use Rattle.hb_audit.specs.Tells.{Answering}
 use Rattle.hb_report.specs.Total.{total_line}
-use Rattle.hb_turns.specs.Notes.{held}
 use Rattle.hb_turns.specs.declared.served.Served.{Served}
 use Rattle.hb_words.specs.declared.asks.Make.{Make}
 use Rattle.hb_words.specs.declared.asks.Show.{Show}
@@ -47,7 +46,7 @@ HasOutcome r o = LooksAt r.asked (done_in r.left) r.input o
 -- THE ANSWER OF EACH COMMAND, behind a run of the proxy that ended so; where there is no run, as if by a stop
 
 abbrev pub ReplayGives : {A : Type 0} {own : Answering A} → Replay → Run own → ReplayEnd → List ℕ → Type 0
-ReplayGives p r end text = HasOutcome r (Ok text) × RunsTo p r.input.bytes r.left end × HearsAll r.world.heard (held r.left.keep)
+ReplayGives p r end text = HasOutcome r (Ok text) × RunsTo p r.input.bytes r.left end × HearsAll p r.world.heard (done_in r.left)
 
 abbrev pub ServeGives : {A : Type 0} {own : Answering A} → Serve → Run own → ReplayEnd → List ℕ → Type 0
 ServeGives s r end text = Untouched r.input × ((told : Served) × RanTo s r.world told end × (text ≡ total_line told.totals))

@@ -44,7 +44,7 @@ made_run = record {
 
 -- the lines of the script were run over, the run ended so, and all its notes were told to the audits
 abbrev pub RunsMade : {A : Type 0} {own : Answering A} → Make → Heard own → RunState → ReplayEnd → Type 0
-RunsMade m heard left end = (left.script.lines ≡ made m.count) × IsRun made_run end (done_in left) × HearsAll heard (done_in left).notes
+RunsMade m heard left end = (left.script.lines ≡ made m.count) × IsRun made_run end (done_in left) × HearsAll made_run heard (done_in left)
 
 -- the line of its totals
 abbrev pub made_total : RunState → List ℕ

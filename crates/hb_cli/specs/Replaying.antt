@@ -1,6 +1,6 @@
 -- A run of the proxy over a script, as its trace and its notes tell it.
 use Rattle.std.specs.Prelude.{⊤, ◌≡◌, ◌⊎◌, ℕ, false, List, [], Option, None, Some, Result, Ok, Err}
-use Rattle.hb_audit.specs.Tells.{Answering, Tells}
+use Rattle.hb_audit.specs.Tells.{Answering}
 use Rattle.hb_base.specs.declared.note.Note.{Note}
 use Rattle.hb_base.specs.declared.or.Or.{Or}
 use Rattle.hb_base.specs.declared.or.Or.TheVariants.{Fault, NoMemory}
@@ -13,6 +13,7 @@ use Rattle.hb_turns.specs.declared.served.Served.{Served}
 use Rattle.hb_turns.specs.Ends.{was_wanting}
 use Rattle.hb_turns.specs.Notes.{held}
 use Rattle.hb_turns.specs.Totals.{sums_of, totals_of}
+use Rattle.hb_reason.specs.Reasons.{Hear}
 use Rattle.hb_serve.specs.Served.{IsServed, HasNotes}
 use Rattle.hb_serve.specs.declared.words.ServeWords.{ServeWords}
 use Rattle.hb_report.specs.Report.{report}
@@ -84,8 +85,9 @@ Replays r text left (Ok told) =
 Replays r text left (Err (Fault fault)) = (lines text ≡ Err fault) × (left.script.trace ≡ [])
 Replays r text left (Err NoMemory) = DoneLawfully r left.script.trace
 
--- What a replay tells to audits that held the first and hold the second behind it: all its notes; where a row is no line, none
-abbrev pub TellsNotes : {A : Type 0} → Answering A → List A → List A → List Note → Result Replayed (Or ScriptFault) → Type 0
-TellsNotes own before after notes (Ok told) = Tells own before after notes
-TellsNotes own before after notes (Err (Fault fault)) = after ≡ before
-TellsNotes own before after notes (Err NoMemory) = ⊤
+-- What a replay that did this tells to audits, which are the second ones behind it: all its notes, with their reasons; where a row is no
+-- line, none
+abbrev pub TellsNotes : {A : Type 0} → Answering A → Replay → List A → List A → Done → Result Replayed (Or ScriptFault) → Type 0
+TellsNotes own r before after done (Ok told) = Hear own (words_of r.run None).config done.trace before after done.notes
+TellsNotes own r before after done (Err (Fault fault)) = after ≡ before
+TellsNotes own r before after done (Err NoMemory) = ⊤

@@ -1,11 +1,11 @@
 -- What `serve` does: it runs the proxy over a world, tells its notes to audits, reads no input and prints the totals of the run.
 use Rattle.std.specs.Prelude.{◌≡◌, ◌⊎◌, ℕ, ◌==◌, Bool, true, false, List, [], Option, Some, IfSome}
 use Rattle.std.specs.Bool.{MatchBool}
-use Rattle.hb_audit.specs.Tells as audits
 use Rattle.hb_audit.specs.Tells.{Answering}
 use Rattle.hb_base.specs.Count.{Counts}
 use Rattle.hb_base.specs.declared.note.Note.{Note}
 use Rattle.hb_report.specs.Total.{total_line}
+use Rattle.hb_reason.specs.Reasons.{Hear}
 use Rattle.hb_serve.specs.Served.{Heard, Serves}
 use Rattle.hb_turns.specs.Ends.{is_fault}
 use Rattle.hb_turns.specs.declared.served.Served.{Served}
@@ -59,12 +59,13 @@ is_world_fault ends.WorldFault = true
 is_world_fault _ = false
 
 -- It was served, ended so, and memory never lacked: the totals are those of its trace and of all its notes, and these were told to the
--- audits, one after the other, of which those are left that kept each
+-- audits, one after the other, each with its reason; those audits are left that kept each
 abbrev pub RanTo : {A : Type 0} {own : Answering A} → Serve → WorldUse own → Served → ReplayEnd → Type 0
 RanTo {A} {own} s w told end =
     (ended_as told ≡ Some end)
     × LeavesTrace w (λ trace. (keep : Option (List Note)) × (notes : List Note)
-    × RunsAs (words_of s.run s.ticks) told keep end (done_with trace notes) × audits.Tells own w.heard.before w.heard.after notes)
+    × RunsAs (words_of s.run s.ticks) told keep end (done_with trace notes)
+    × Hear own (words_of s.run s.ticks).config trace w.heard.before w.heard.after notes)
     × Counts w.faults w.faults_after (is_world_fault end)
 
 -- a text is printed whole, and how the run ended is told; or a put failed, and it is printed in part

@@ -7,7 +7,6 @@ ghost use Rattle.hb_audit.specs.HeldBy.{each, answers_by};
 ghost use Rattle.hb_base.specs.Outcome.{Answers};
 ghost use Rattle.hb_cli.specs.Replaying.{done_by, run_state};
 ghost use Rattle.hb_serve.specs.Served.{heard_of};
-ghost use Rattle.hb_turns.specs.Notes.{held};
 ghost use Rattle.hb_words.specs.Asked.{command_of};
 ghost use Rattle.hb_words.specs.AskedRun.{replay_seen};
 ghost use Rattle.hb_words.specs.Command.{replays};
@@ -57,7 +56,7 @@ fn replay_input<A: Audit>(
     ensures kind { IfOk result (λ a. Suits (replays (replay_seen words.now)) a) }
     ensures leaves { LeavesOf (replay_seen words.now) input (run_state script.new keep.new) result }
     ensures heard { HearsOf (replays (replay_seen words.now)) (heard_of (answers_by A.notes A.answers) (each audits.old) (each audits.new))
-        (held keep.new) result }
+        (done_by script.new.trace keep.new) result }
 {
     match replay(alloc, words, input, keep, audits, script) {
         Ok(replayed) => Ok(Answer::Replayed(replayed)),
@@ -82,7 +81,7 @@ fn answer<A: Audit>(
     ensures kind { IfOk result (λ a. Suits (command_of command.now) a) }
     ensures leaves { CommandLeaves (command_of command.now) input (run_state script.old keep.old) (run_state script.new keep.new) result }
     ensures heard { HearsOf (command_of command.now) (heard_of (answers_by A.notes A.answers) (each audits.old) (each audits.new))
-        (held keep.new) result }
+        (done_by script.new.trace keep.new) result }
 {
     match command {
         Command::Check(check) => check_input(alloc, check, input.as_slice()),
@@ -118,7 +117,7 @@ fn find_out<S: Source, A: Audit>(
     ensures leaves { LeavesBy (command_of command.now) (S.left input.old) (run_state script.old keep.old)
         (run_state script.new keep.new) result }
     ensures heard { HearsBy (command_of command.now) (heard_of (answers_by A.notes A.answers) (each audits.old) (each audits.new))
-        (held keep.new) result }
+        (done_by script.new.trace keep.new) result }
     ensures later { S.faults input.old ≤ S.faults input.new }
 {
     let bytes = match read_all(alloc, input, LONGEST_INPUT) {
@@ -177,15 +176,16 @@ fn conclude<S: Source, K: Sink, E: Sink, A: Audit>(
     requires by_input { IsTrue (takes_input (Ok (command_of command.now))) }
     requires lines { script.old.lines ≡ [] }
     requires trace { script.old.trace ≡ [] }
-    ensures ends { (w : WorldUse (answers_by A.notes A.answers)) → w.heard ≡ heard_of (answers_by A.notes A.answers) (each audits.old) (each audits.new) → EndsWith (record {
-      asked = Ok (command_of command.now);
-      input = used S.left S.faults input.old input.new;
-      out = used K.written K.faults out.old out.new;
-      err = used E.written E.faults err.old err.new;
-      world = w;
-      before = run_state script.old keep.old;
-      left = run_state script.new keep.new;
-    }) result }
+    ensures ends { (w : WorldUse (answers_by A.notes A.answers))
+        → w.heard ≡ heard_of (answers_by A.notes A.answers) (each audits.old) (each audits.new) → EndsWith (record {
+          asked = Ok (command_of command.now);
+          input = used S.left S.faults input.old input.new;
+          out = used K.written K.faults out.old out.new;
+          err = used E.written E.faults err.old err.new;
+          world = w;
+          before = run_state script.old keep.old;
+          left = run_state script.new keep.new;
+        }) result }
     ensures by_input { IsTrue (takes_input (Ok (command_of command.now))) }
 {
     let answer = match find_out(alloc, command, input, keep, audits, script) {

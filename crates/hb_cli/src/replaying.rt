@@ -1,14 +1,15 @@
 //! A run over a script, and what is told of it.
 
-ghost use Rattle.std.specs.Prelude.{◌≡◌, [], IfOk};
+ghost use Rattle.std.specs.Prelude.{◌≡◌, [], None, IfOk};
 ghost use Rattle.hb_audit.specs.HeldBy.{each, answers_by};
-ghost use Rattle.hb_audit.specs.Tells.{Tells};
 ghost use Rattle.hb_base.specs.Outcome.{Answers};
 ghost use Rattle.hb_report.specs.Report.{report};
+ghost use Rattle.hb_reason.specs.Reasons.{Hear};
 ghost use Rattle.hb_script.specs.Script.{lines};
 ghost use Rattle.hb_turns.specs.Notes.{held};
 ghost use Rattle.hb_turns.specs.Totals.{totals_of};
 ghost use Rattle.hb_words.specs.AskedRun.{replay_seen};
+ghost use Rattle.hb_cli.specs.Asked.{words_of};
 ghost use Rattle.hb_cli.specs.Replaying.{flags_of, done_by, run_state, IsRun, DoneLawfully, ReplaysLines, Replays, TellsNotes};
 
 use crate::asked::serve_words;
@@ -43,7 +44,8 @@ fn run_over<A: Audit>(
     ensures lawful { DoneLawfully (replay_seen words.now) script.new.trace }
     ensures runs { IfOk result (λ ran. IsRun (replay_seen words.now) ran.0 (done_by script.new.trace keep.new)) }
     ensures totals { IfOk result (λ ran. ran.1 ≡ totals_of script.new.trace (held keep.new)) }
-    ensures told { IfOk result (λ ran. Tells (answers_by A.notes A.answers) (each audits.old) (each audits.new) (held keep.new)) }
+    ensures told { IfOk result (λ ran. Hear (answers_by A.notes A.answers) (words_of (replay_seen words.now).run None).config
+        script.new.trace (each audits.old) (each audits.new) (held keep.new)) }
 {
     let asked = serve_words(alloc, &words.run, None)?;
     let served = serve(alloc, asked, keep, audits, script);
@@ -83,7 +85,7 @@ fn lines_of(alloc: Global, text: Bytes) -> Result<List<Line>, Or<ScriptFault>>
 }
 
 /// Runs the proxy over these lines, in whose world nothing happened yet. The notes of the run are left in `keep`, and told to the
-/// audits; one that doesn't keep each is dropped.
+/// audits with their reasons; one that doesn't keep each is dropped.
 ///
 /// Errors: `NoMemory`, and then nothing is done, or a run was served, whose links are all closed; so also where `keep` keeps no
 /// notes.
@@ -98,7 +100,8 @@ pub fn replay_lines<A: Audit>(
     requires lines { script.old.lines ≡ [] }
     requires trace { script.old.trace ≡ [] }
     ensures replays { ReplaysLines (replay_seen words.now) lines (run_state script.new keep.new) result }
-    ensures tells { IfOk result (λ _. Tells (answers_by A.notes A.answers) (each audits.old) (each audits.new) (held keep.new)) }
+    ensures tells { IfOk result (λ _. Hear (answers_by A.notes A.answers) (words_of (replay_seen words.now).run None).config
+        script.new.trace (each audits.old) (each audits.new) (held keep.new)) }
 {
     script.load(lines)?;
     let (end, totals) = run_over(alloc, words, keep, audits, script)?;
@@ -107,7 +110,7 @@ pub fn replay_lines<A: Audit>(
 }
 
 /// Runs the proxy over the script that a text spells, in whose world nothing happened yet. The notes of the run are left in `keep`, and
-/// told to the audits; one that doesn't keep each is dropped.
+/// told to the audits with their reasons; one that doesn't keep each is dropped.
 ///
 /// Errors: the fault of the first row that is no line, and then nothing is done; and `NoMemory`, and then nothing is
 /// done, or a run was served, whose links are all closed; so also where `keep` keeps no notes.
@@ -122,7 +125,8 @@ pub fn replay<A: Audit>(
     requires lines { script.old.lines ≡ [] }
     requires trace { script.old.trace ≡ [] }
     ensures replays { Replays (replay_seen words.now) text (run_state script.new keep.new) result }
-    ensures tells { TellsNotes (answers_by A.notes A.answers) (each audits.old) (each audits.new) (held keep.new) result }
+    ensures tells { TellsNotes (answers_by A.notes A.answers) (replay_seen words.now) (each audits.old) (each audits.new)
+        (done_by script.new.trace keep.new) result }
 {
     let lines = lines_of(alloc, text)?;
     Ok(replay_lines(alloc, words, lines, keep, audits, script)?)

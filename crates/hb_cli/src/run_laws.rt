@@ -3,7 +3,6 @@
 ghost use Rattle.std.specs.Prelude.{◌≡◌, ◌≢◌, ◌<◌, ◌≤◌, ◌==◌, ◌⊎◌, ℕ, List, [], false, IsTrue, IsErr, IfSome, length, take, None, Ok, Err};
 ghost use Rattle.std.specs.Io.KnownBytes.{Appends};
 ghost use Rattle.hb_audit.specs.HeldBy.{answers_by};
-ghost use Rattle.hb_audit.specs.Tells.{Tells};
 ghost use Rattle.hb_base.specs.Count.{Counts, Rose};
 ghost use Rattle.hb_cli.specs.Replaying.{DoneLawfully, done_in};
 ghost use Rattle.hb_cli.specs.declared.ended.ReplayEnd.{ReplayEnd as ReplayEnds};
@@ -15,6 +14,7 @@ ghost use Rattle.hb_words.specs.declared.asks.Show.{Show as Shows};
 ghost use Rattle.hb_words.specs.declared.page.Page.{Page as Pages};
 ghost use Rattle.hb_cli.specs.Asked.{words_of};
 ghost use Rattle.hb_cli.specs.Ending.{EachEnding};
+ghost use Rattle.hb_cli.specs.Hearing.{HearsAll};
 ghost use Rattle.hb_cli.specs.Keeping.{KeepsHeadline};
 ghost use Rattle.hb_cli.specs.Making.{MakesAt};
 ghost use Rattle.hb_cli.specs.Leaving.{RunsTo};
@@ -33,7 +33,8 @@ pub fn words_are_refused_exactly<A: Audit>()
     ensures reads_nothing { EachEnding (answers_by A.notes A.answers) (λ r status. status ≡ 2 → r.input.bytes_after ≡ r.input.bytes) }
 {}
 
-/// But for `serve`, `make` and a page a command is answered by its input, which is read to its end, or past its limit, before it is looked at. Of
+/// But for `serve`, `make` and a page a command is answered by its input, which is read to its end, or past its limit, before it is looked
+/// at. Of
 /// one that is told the status is the stated one: 3 exactly by the input, 0 with its answer; a replay that has an answer may have ended
 /// otherwise than by a stop.
 pub fn statuses_are_stated_by_words_and_input<A: Audit>()
@@ -56,16 +57,20 @@ pub fn faults_are_told_by_statuses<A: Audit>()
 /// The answer, which is that of some input, and of the one that is told, is printed whole at 0, 4 and 5, and in part at 7. At every other
 /// status nothing is printed; but where memory is wanting while `show` prints, a part is.
 pub fn answers_are_printed_as_words_and_input_have_them<A: Audit>()
-    ensures printed { EachEnding (answers_by A.notes A.answers) (λ r status. IsTrue (takes_input r.asked) → IsTrue (is_answered status) → (text : List ℕ)
+    ensures printed { EachEnding (answers_by A.notes A.answers) (λ r status.
+        IsTrue (takes_input r.asked) → IsTrue (is_answered status) → (text : List ℕ)
         × IsOutcomeBy r.asked (done_in r.left) (Ok text)
         × IfSome r.input.bytes (λ left. outcome_by r.asked (done_in r.left) left ≡ Ok text)
         × Appends r.out.bytes r.out.bytes_after text) }
-    ensures printed_part { EachEnding (answers_by A.notes A.answers) (λ r status. IsTrue (takes_input r.asked) → status ≡ 7 → (text : List ℕ)
+    ensures printed_part { EachEnding (answers_by A.notes A.answers) (λ r status.
+        IsTrue (takes_input r.asked) → status ≡ 7 → (text : List ℕ)
         × IsOutcomeBy r.asked (done_in r.left) (Ok text)
         × IfSome r.input.bytes (λ left. outcome_by r.asked (done_in r.left) left ≡ Ok text)
         × ((n : ℕ) × (n < length text) × Appends r.out.bytes r.out.bytes_after (take n text))) }
-    ensures quiet { EachEnding (answers_by A.notes A.answers) (λ r status. is_answered status ≡ false → status ≢ 7 → status ≢ 9 → r.out.bytes_after ≡ r.out.bytes) }
-    ensures printed_wanting { EachEnding (answers_by A.notes A.answers) (λ r status. status ≡ 9 → (r.out.bytes_after ≡ r.out.bytes) ⊎ ((text : List ℕ)
+    ensures quiet { EachEnding (answers_by A.notes A.answers) (λ r status.
+        is_answered status ≡ false → status ≢ 7 → status ≢ 9 → r.out.bytes_after ≡ r.out.bytes) }
+    ensures printed_wanting { EachEnding (answers_by A.notes A.answers) (λ r status.
+        status ≡ 9 → (r.out.bytes_after ≡ r.out.bytes) ⊎ ((text : List ℕ)
         × (s : Shows) × (r.asked ≡ Ok (shows s)) × IsOutcomeBy r.asked (done_in r.left) (Ok text)
         × IfSome r.input.bytes (λ left. outcome_by r.asked (done_in r.left) left ≡ Ok text)
         × ((n : ℕ) × (n ≤ length text) × Appends r.out.bytes r.out.bytes_after (take n text)))) }
@@ -95,8 +100,10 @@ pub fn replays_leave_lawful_runs<A: Audit>()
         → (end : ReplayEnds) × RunsTo p r.input.bytes r.left end) }
     ensures wanting { EachEnding (answers_by A.notes A.answers) (λ r status. (p : Replays) → r.asked ≡ Ok (replays p) → status ≡ 9
         → DoneLawfully p r.left.script.trace) }
-    ensures nothing_done { EachEnding (answers_by A.notes A.answers) (λ r status. (status ≡ 2) ⊎ (status ≡ 3) ⊎ (status ≡ 6) → r.left.script.trace ≡ []) }
-    ensures replays_alone { EachEnding (answers_by A.notes A.answers) (λ r status. IsTrue (takes_input r.asked) → (status ≡ 4) ⊎ (status ≡ 5)
+    ensures nothing_done { EachEnding (answers_by A.notes A.answers) (λ r status.
+        (status ≡ 2) ⊎ (status ≡ 3) ⊎ (status ≡ 6) → r.left.script.trace ≡ []) }
+    ensures replays_alone { EachEnding (answers_by A.notes A.answers) (λ r status.
+        IsTrue (takes_input r.asked) → (status ≡ 4) ⊎ (status ≡ 5)
         → (p : Replays) × (r.asked ≡ Ok (replays p))) }
 {}
 
@@ -111,19 +118,20 @@ pub fn runs_keep_the_headline<A: Audit>()
         → LeavesTrace r.world (λ trace. KeepsHeadline (words_of s.run s.ticks) trace)) }
 {}
 
-/// All notes of a replay that ends so were told to the audits, one after the other, and those are left that kept each. At 2, 3 and 6 no
-/// note was told.
+/// All notes of a replay that ends so were told to the audits, one after the other, each with its reason, and those are left that kept
+/// each. At 2, 3 and 6 no note was told.
 pub fn audits_hear_all_notes_of_a_replay<A: Audit>()
     ensures heard { EachEnding (answers_by A.notes A.answers) (λ r status. (p : Replays) → r.asked ≡ Ok (replays p)
         → (status ≡ 0) ⊎ (status ≡ 4) ⊎ (status ≡ 5) ⊎ (status ≡ 7)
-        → Tells (answers_by A.notes A.answers) r.world.heard.before r.world.heard.after (held r.left.keep)) }
+        → HearsAll p r.world.heard (done_in r.left)) }
     ensures none_heard { EachEnding (answers_by A.notes A.answers) (λ r status. (status ≡ 2) ⊎ (status ≡ 3) ⊎ (status ≡ 6)
         → r.world.heard.after ≡ r.world.heard.before) }
 {}
 
 /// `serve`, `make` and pages, which read no input, end as their own tables say.
 pub fn others_end_by_their_tables<A: Audit>()
-    ensures serves { EachEnding (answers_by A.notes A.answers) (λ r status. (s : Serves) → r.asked ≡ Ok (serves s) → ServesAt s r.world r.out r.err status) }
+    ensures serves { EachEnding (answers_by A.notes A.answers) (λ r status. (s : Serves) → r.asked ≡ Ok (serves s)
+        → ServesAt s r.world r.out r.err status) }
     ensures makes { EachEnding (answers_by A.notes A.answers) (λ r status. (m : Makes) → r.asked ≡ Ok (makes m)
         → MakesAt m r.world.heard r.before r.left r.out r.err status) }
     ensures pages { EachEnding (answers_by A.notes A.answers) (λ r status. (p : Pages) → r.asked ≡ Ok (prints p)

@@ -8,7 +8,7 @@ ghost use Rattle.hb_line_audit.specs.Refused.{BothLines, FirstLine, NoLine, Shor
 
 use crate::polled::Polled;
 
-/// An audit to which notes are told, and that is left, was handed their lines.
+/// An audit to which notes are told, and that is left, was handed their lines, and those of their reasons.
 pub fn notes_told_are_lines_handed_on<K: Polled>()
     ensures { HandsLines K.written }
 {}

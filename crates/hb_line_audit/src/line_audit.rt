@@ -1,20 +1,21 @@
-//! An audit that writes a line for each note.
+//! An audit that writes a line for each note, and for the reason of a refusal.
 
 ghost use Rattle.std.specs.Prelude.{◌≡◌, ◌≤◌, ◌≢◌, ◌⊎◌, [], true, false, None, Some, IfOk, OnOk};
 ghost use Rattle.std.specs.String.{string_bytes};
 ghost use Rattle.std.specs.Io.KnownBytes.{Keeps};
 ghost use Rattle.hb_base.specs.Count.{Counts, Rose};
 ghost use Rattle.hb_audit.specs.Held.{held_after, has_failed};
-ghost use Rattle.hb_report.specs.Note.{note_line};
+ghost use Rattle.hb_audit.specs.Told.{told_of};
 ghost use Rattle.hb_line_audit.specs.Lines.{handed, lost_line};
 ghost use Rattle.hb_line_audit.specs.LineAudit.{TakesLine};
 ghost use Rattle.hb_line_audit.specs.Notes.{TakesNote};
+ghost use Rattle.hb_line_audit.specs.Why.{told_line};
 
 use crate::lines::Lines;
 use crate::polled::Polled;
-use hb_audit::{Audit, Noted};
+use crate::why::add_told;
+use hb_audit::{Audit, Noted, Reason};
 use hb_base::{NoMemory, Note};
-use hb_report::add_note;
 use std::alloc::Global;
 
 /// How many bytes a line may have for which no memory is taken.
@@ -23,12 +24,13 @@ const LINE: usize = 512;
 /// How many bytes the line has that tells of lost lines, at most.
 const LOST: usize = 64;
 
-/// Hands the line of each note to a sink that is asked whether it takes more. Up to 262,144 bytes wait until it does; a line for which
-/// there is no room is lost, whole, and counted, and in front of the next that finds room stands `hbone: N lines lost`. It tells no
-/// notes. It fails where a put did, and from then on nothing is put. `over` takes the memory for what waits and for lines of up to 512
-/// bytes; what a longer one took is kept for the next.
+/// Hands the line of each note, and that of its reason with it, to a sink that is asked whether it takes more. Up to 262,144 bytes wait
+/// until it does; a line for which there is no room is lost, whole, with that of its reason, and counted once, and in front of the next
+/// that finds room stands `hbone: N lines lost`. It tells no notes. It fails where a put did, and from then on nothing is put. `over`
+/// takes the memory for what waits and for lines of up to 512 bytes; what a longer one took is kept for the next.
 #[derive(Drop)]
 pub struct LineAudit<K> {
+    alloc: Global,
     lines: Lines<K>,
     line: String,
     told: String,
@@ -60,6 +62,7 @@ impl<K: Polled + Drop> LineAudit<K> {
         let line = String::with_capacity(alloc, LINE)?;
         let told = String::with_capacity(alloc, LOST)?;
         Ok(LineAudit {
+            alloc,
             lines,
             line,
             told,
@@ -98,14 +101,14 @@ impl<K: Polled + Drop> LineAudit<K> {
         Noted::Kept
     }
 
-    /// Takes the line of a note, which waits until a flush.
-    pub fn take(&mut self, n: &Note) -> Noted
-        ensures taken { TakesLine K.written self.old.lines self.new.lines (note_line n.now) result }
+    /// Takes the line of a note, and that of its reason, which wait until a flush.
+    pub fn take(&mut self, n: &Note, reason: Option<Reason<'_>>) -> Noted
+        ensures taken { TakesLine K.written self.old.lines self.new.lines (told_line (told_of n.now reason.entry)) result }
         ensures later { self.old.faults ≤ self.new.faults }
         ensures counts { Counts self.old.faults self.new.faults (has_failed result) }
     {
         self.line.clear();
-        if add_note(n, &mut self.line).is_err() {
+        if add_told(self.alloc, n, reason, &mut self.line).is_err() {
             return Noted::NoMemory;
         }
         self.take_line()
@@ -144,21 +147,22 @@ impl<K: Polled + Drop> LineAudit<K> {
 impl<K: Polled + Drop> Audit for LineAudit<K> {
     ghost use Rattle.std.specs.Prelude.{None};
     ghost use Rattle.hb_line_audit.specs.Notes.{TakesNote};
+    ghost use Rattle.hb_line_audit.specs.Why.{told_line};
 
     ghost notes = { λ a. None };
 
     ghost faults = { λ a. a.faults };
 
-    ghost answers = { λ a n answer after. TakesNote K.written a n answer after };
+    ghost answers = { λ a t answer after. TakesNote K.written a t answer after };
 
-    /// Takes the note's line, and writes what waits, as far as the sink takes it.
-    fn note(&mut self, n: &Note) -> Noted
-        ensures own { TakesNote K.written self.old n.now result self.new }
+    /// Takes the note's line, and that of its reason, and writes what waits, as far as the sink takes it.
+    fn note(&mut self, n: &Note, reason: Option<Reason<'_>>) -> Noted
+        ensures own { TakesNote K.written self.old (told_of n.now reason.entry) result self.new }
         ensures held { None ≡ held_after None n.now result }
         ensures later { self.old.faults ≤ self.new.faults }
         ensures counts { Counts self.old.faults self.new.faults (has_failed result) }
     {
-        let noted = self.take(n);
+        let noted = self.take(n, reason);
         self.flush();
         noted
     }

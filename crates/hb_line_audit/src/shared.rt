@@ -2,7 +2,7 @@
 
 use crate::line_audit::LineAudit;
 use crate::polled::Polled;
-use hb_audit::{Audit, Noted};
+use hb_audit::{Audit, Noted, Reason};
 use hb_base::{NoMemory, Note};
 use std::alloc::Global;
 use std::cell::RefCell;
@@ -48,10 +48,10 @@ impl<K: Polled + Drop> SharedAudit<K> {
         }
     }
 
-    /// Takes a note.
-    fn take(&self, n: &Note) -> Noted {
+    /// Takes a note, with its reason.
+    fn take(&self, n: &Note, reason: Option<Reason<'_>>) -> Noted {
         match self.audit.try_borrow_mut() {
-            Ok(mut audit) => audit.take(n),
+            Ok(mut audit) => audit.take(n, reason),
             Err(_) => Noted::Failed,
         }
     }
@@ -64,11 +64,11 @@ impl<K: Polled + Drop> Audit for SharedAudit<K> {
 
     ghost faults = { λ a. a.faults };
 
-    ghost answers = { λ a n answer after. ⊤ };
+    ghost answers = { λ a t answer after. ⊤ };
 
-    /// Takes the note's line, which waits until a flush.
-    fn note(&mut self, n: &Note) -> Noted {
-        let noted = self.take(n);
+    /// Takes the note's line, and that of its reason, which wait until a flush.
+    fn note(&mut self, n: &Note, reason: Option<Reason<'_>>) -> Noted {
+        let noted = self.take(n, reason);
         if matches!(noted, Noted::Failed) {
             self.faults = self.faults.saturating_add(1);
         }

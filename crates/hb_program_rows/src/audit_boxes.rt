@@ -19,7 +19,7 @@ fn end(link: u64) -> Note {
 /// An audit that holds one note already, of a number of its own.
 fn audit(alloc: Global, number: u64, room: usize, fail: Option<u64>) -> MemAudit {
     let mut audit = MemAudit::new(alloc, room, fail);
-    let _ = audit.note(&end(number));
+    let _ = audit.note(&end(number), None);
     audit
 }
 
@@ -37,7 +37,7 @@ fn holds_all<A: Audit>(audits: &Audits<A>, which: usize, number: u64) -> bool {
 /// Four notes are told; an audit is dropped at the call of number `at`.
 fn tell_four<A: Audit>(rt: &impl Abort, audits: &mut Audits<A>, at: u64) {
     for link in 1..5u64 {
-        let dropped = audits.tell(&end(link));
+        let dropped = audits.tell(&end(link), None);
         assert!(rt;
             dropped == usize::from(link + 1 == at),
             "{dropped} dropped at {link}, not at {at}"
@@ -94,11 +94,11 @@ fn an_audit_without_room_is_dropped(rt: HostRuntime) {
     boxes.push(audit).ok().expect(&rt, "memory");
     let mut audits = Audits::over(boxes);
     assert!(rt;
-        audits.tell(&end(1)) == 0 && audits.len() == 1,
+        audits.tell(&end(1), None) == 0 && audits.len() == 1,
         "there is room"
     );
     assert!(rt;
-        audits.tell(&end(2)) == 1 && audits.len() == 0,
+        audits.tell(&end(2), None) == 1 && audits.len() == 0,
         "there is none"
     );
 }

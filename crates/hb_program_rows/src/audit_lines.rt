@@ -2,8 +2,8 @@
 
 use crate::drip::Drip;
 use crate::valve::Valve;
-use hb_audit::{Audit, Noted};
-use hb_base::{Cause, Note, Peer, read_identity, read_ip, read_target};
+use hb_audit::{Audit, Noted, Reason};
+use hb_base::{Cause, Note, Peer, Text, read_identity, read_ip, read_target};
 use hb_line_audit::{Always, LineAudit};
 use std::alloc::Global;
 use std::process::Abort;
@@ -45,8 +45,8 @@ fn audit(rt: &impl Abort, alloc: Global, room: usize) -> LineAudit<Always<Drip>>
 fn assert_line(rt: &impl Abort, alloc: Global, n: &Note, line: &str) {
     for room in 0..line.len() {
         let mut audit = audit(rt, alloc, room);
-        let _ = audit.note(n);
-        let noted = audit.note(n);
+        let _ = audit.note(n, None);
+        let noted = audit.note(n, None);
         assert!(rt; matches!(noted, Noted::Failed), "room for {room}: {line}");
         assert!(rt;
             audit.sink().sink().as_slice() == &line.as_bytes()[..room],
@@ -54,7 +54,7 @@ fn assert_line(rt: &impl Abort, alloc: Global, n: &Note, line: &str) {
         );
     }
     let mut audit = audit(rt, alloc, line.len());
-    assert!(rt; matches!(audit.note(n), Noted::Kept), "{line}");
+    assert!(rt; matches!(audit.note(n, None), Noted::Kept), "{line}");
     assert!(rt; audit.sink().sink().as_slice() == line.as_bytes(), "{line}");
 }
 
@@ -85,12 +85,54 @@ fn ends_have_their_lines(rt: HostRuntime) {
     );
 }
 
+/// Behind the line of the note stands that of its reason.
+fn assert_reason(rt: &impl Abort, alloc: Global, reason: Reason<'_>, line: &str) {
+    let note = verdict(rt, alloc, 401, ("10.0.0.9", "", "10.0.0.7:8080"));
+    let mut want = String::from_str(alloc, "verdict 3/1 401 10.0.0.9 - 10.0.0.7:8080\n").expect(
+        rt, "memory",
+    );
+    want.push_str(line).expect(rt, "memory");
+    let mut audit = audit(rt, alloc, want.len());
+    assert!(rt;
+        matches!(audit.note(&note, Some(reason)), Noted::Kept),
+        "{line}"
+    );
+    assert!(rt; audit.sink().sink().as_slice() == want.as_bytes(), "{line}");
+}
+
+#[test]
+fn reasons_have_their_lines(rt: HostRuntime) {
+    let alloc = rt.alloc();
+    let rows = [
+        ("a", "deny-all", "why 3/1 denied_by=a/deny-all\n"),
+        ("", "x", "why 3/1 denied_by=/x\n"),
+        ("a b", "x", "why 3/1 denied_by=\"a b/x\"\n"),
+        ("a", "x\"y\\z", "why 3/1 denied_by=\"a/x\\\"y\\\\z\"\n"),
+        (
+            "a",
+            "x\nend 1/1 done",
+            "why 3/1 denied_by=\"a/x\\nend 1/1 done\"\n",
+        ),
+        ("a", "\u{e9}", "why 3/1 denied_by=\"a/\u{e9}\"\n"),
+    ];
+    for (namespace, name, line) in rows {
+        let reason = Reason::DeniedBy {
+            namespace: &Text::of_str(alloc, namespace).expect(&rt, "memory"),
+            name: &Text::of_str(alloc, name).expect(&rt, "memory"),
+        };
+        assert_reason(&rt, alloc, reason, line);
+    }
+    assert_reason(&rt, alloc, Reason::NoneAllows(1), "why 3/1 none_allows=1\n");
+    let most = Reason::NoneAllows(65_536);
+    assert_reason(&rt, alloc, most, "why 3/1 none_allows=65536\n");
+}
+
 #[test]
 fn lines_follow_each_other(rt: HostRuntime) {
     let alloc = rt.alloc();
     let mut audit = audit(&rt, alloc, 200);
-    let _ = audit.note(&end(Cause::Revoked, 1, 2));
-    let _ = audit.note(&end(Cause::Done, 3, 4));
+    let _ = audit.note(&end(Cause::Revoked, 1, 2), None);
+    let _ = audit.note(&end(Cause::Done, 3, 4), None);
     let line = "end 18446744073709551615/2147483647 revoked up 1 down 2\n\
 end 18446744073709551615/2147483647 done up 3 down 4\n";
     assert!(rt;
@@ -115,7 +157,10 @@ fn a_line_beyond_512_octets_is_written_whole(rt: HostRuntime) {
     let words = ("::1", identity.as_str(), "");
     let note = verdict(&rt, alloc, 503, words);
     let mut audit = audit(&rt, alloc, 2000);
-    assert!(rt; matches!(audit.note(&note), Noted::Kept), "it is kept");
+    assert!(rt;
+        matches!(audit.note(&note, None), Noted::Kept),
+        "it is kept"
+    );
     assert!(rt;
         audit.sink().sink().as_slice() == line.as_bytes(),
         "it is whole"
@@ -130,7 +175,7 @@ fn behind(rt: &impl Abort, alloc: Global, refusals: u64, notes: u32) -> LineAudi
     let sink = Valve::new(alloc, refusals);
     let mut audit = LineAudit::over(alloc, sink).ok().expect(rt, "memory");
     for _ in 0..notes {
-        let noted = audit.note(&end(Cause::Revoked, 1, 2));
+        let noted = audit.note(&end(Cause::Revoked, 1, 2), None);
         assert!(rt; matches!(noted, Noted::Kept), "it is kept");
     }
     audit
@@ -155,7 +200,7 @@ fn lines_wait_until_the_sink_takes_more(rt: HostRuntime) {
 fn lines_without_room_are_counted(rt: HostRuntime) {
     let mut audit = behind(&rt, rt.alloc(), 4681 + 2 * 7, 4681 + 7);
     assert!(rt; audit.sink().as_slice().is_empty(), "none is written");
-    let _ = audit.note(&end(Cause::Revoked, 1, 2));
+    let _ = audit.note(&end(Cause::Revoked, 1, 2), None);
     let lines = audit.sink().as_slice();
     let behind = lines.get(262_136..).unwrap_or(b"");
     let mut want = String::from_str(rt.alloc(), "hbone: 7 lines lost\n").expect(&rt, "memory");

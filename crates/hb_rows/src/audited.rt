@@ -53,7 +53,7 @@ fn before(number: u32) -> Note {
 /// An audit that holds a note already.
 fn audit(alloc: Global, number: u32, fail: Option<u64>) -> MemAudit {
     let mut audit = MemAudit::new(alloc, 9, fail);
-    let _ = audit.note(&before(number));
+    let _ = audit.note(&before(number), None);
     audit
 }
 

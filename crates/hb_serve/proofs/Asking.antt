@@ -1,7 +1,6 @@
 -- A proxy that was asked for so stays one, and its audits hold what they held.
-use Rattle.std.proofs.Common.{◌≡◌, List, Option, Some, None, Result, Ok, Err, OnOk, sym, subst, ◌∙◌}
+use Rattle.std.proofs.Common.{◌≡◌, List, [], ◌∷◌, ◌++◌, Option, Some, None, Result, Ok, Err, OnOk, sym, subst, ◌∙◌}
 use Rattle.std.specs.Prelude.{⊤, IfNone, IfSome}
-use Rattle.hb_audit.specs.Tells as audits
 use Rattle.hb_audit.specs.Tells.{Answering}
 use Rattle.hb_base.specs.declared.cause.Cause.{Cause}
 use Rattle.hb_base.specs.declared.note.Note.{Note}
@@ -13,7 +12,10 @@ use Rattle.hb_whole.specs.declared.proxy.Proxy.{Proxy}
 use Rattle.hb_world.specs.declared.act.Act.{Act}
 use Rattle.hb_world.specs.declared.act.Act.TheVariants as act
 use Rattle.hb_world.specs.declared.entry.Entry.{Entry}
+use Rattle.hb_world.specs.declared.entry.Entry.TheVariants as e
 use Rattle.hb_serve.specs.Asked.{StandsWith}
+use Rattle.hb_reason.specs.Reasons.{Hear}
+use Rattle.hb_reason.proofs.Hearing.{longer}
 
 -- audits of a type, of which each may answer so
 module _ {A : Type 0} (answers : Answering A) where
@@ -21,7 +23,8 @@ module _ {A : Type 0} (answers : Answering A) where
   pub tells_as : (g : NodeConfig) (before now : List A) (x : Entry) (old new : Proxy) → Tells Stands shown_of x old new
       → config_of new ≡ config_of old → Tells (λ taken p trace. StandsWith answers g before taken p now trace) shown_of x old new
   tells_as g before now x old new tells same taken trace stands may =
-      let told = tells taken trace stands.0 may in ((told.0, (same ∙ stands.1.0, stands.1.1)), told.1)
+      let told = tells taken trace stands.0 may in
+      ((told.0, (same ∙ stands.1.0, longer g trace answers before x now taken stands.1.1)), told.1)
 
   -- no act is left behind the end of a run: no link lives
   pub none_as : (g : NodeConfig) (before now : List A) (a : Option Act) (o : Option Cause) (p : Proxy)
@@ -37,22 +40,35 @@ module _ {A : Type 0} (answers : Answering A) where
     StandsIn taken n trace = StandsWith answers g before taken (f n) (h n) trace
 
     -- the same audits are left
-    kept : (taken : List Note) (old new : N) → config_of (f new) ≡ config_of (f old) → h new ≡ h old
-        → (config_of (f old) ≡ g) × audits.Tells answers before (h old) taken
-        → (config_of (f new) ≡ g) × audits.Tells answers before (h new) taken
-    kept taken old new same left side = (same ∙ side.0, subst (λ (l : List A). audits.Tells answers before l taken) (sym left) side.1)
+    kept : (taken : List Note) (trace : List Entry) (old new : N) → config_of (f new) ≡ config_of (f old) → h new ≡ h old
+        → (config_of (f old) ≡ g) × Hear answers g trace before (h old) taken
+        → (config_of (f new) ≡ g) × Hear answers g trace before (h new) taken
+    kept taken trace old new same left side =
+        (same ∙ side.0, subst (λ (l : List A). Hear answers g trace before l taken) (sym left) side.1)
+
+    -- behind one more entry
+    kept_behind : (taken : List Note) (trace : List Entry) (x : Entry) (old new : N) → config_of (f new) ≡ config_of (f old) → h new ≡ h old
+        → (config_of (f old) ≡ g) × Hear answers g trace before (h old) taken
+        → (config_of (f new) ≡ g) × Hear answers g (trace ++ x ∷ []) before (h new) taken
+    kept_behind taken trace x old new same left side =
+        let is = kept taken trace old new same left side in (is.0, longer g trace answers before x (h new) taken is.1)
 
     -- it gives an act
     pub acts_as : (a : Option Act) (old new : N) → Acts Stands shown_of a (f old) (f new) → config_of (f new) ≡ config_of (f old)
         → h new ≡ h old → Acts StandsIn (λ n. shown_of (f n)) a old new
     acts_as None old new acts same left =
-        λ taken trace stands. let did = acts taken trace stands.0 in ((did.0, kept taken old new same left stands.1), did.1)
-    acts_as (Some (act.Dial to why)) old new acts same left =
-        (acts.0, λ taken trace stands. let did = acts.1 taken trace stands.0 in ((did.0, kept taken old new same left stands.1), did.1))
+        λ taken trace stands. let did = acts taken trace stands.0 in ((did.0, kept taken trace old new same left stands.1), did.1)
+    acts_as (Some (act.Dial to why)) old new acts same left = (
+      acts.0,
+      λ taken trace stands. let did = acts.1 taken trace stands.0 in
+          ((did.0, kept taken trace old new same left stands.1), did.1),
+    )
     acts_as (Some (act.Shut l)) old new acts same left =
-        λ taken trace stands. let did = acts taken trace stands.0 in (did.0, did.1, (did.2, kept taken old new same left stands.1), did.3)
+        λ taken trace stands. let did = acts taken trace stands.0 in
+        (did.0, did.1, (did.2, kept_behind taken trace (e.Shut l) old new same left stands.1), did.3)
     acts_as (Some (act.Close l cause)) old new acts same left =
-        λ taken trace stands. let did = acts taken trace stands.0 in (did.0, (did.1, kept taken old new same left stands.1), did.2)
+        λ taken trace stands. let did = acts taken trace stands.0 in
+        (did.0, (did.1, kept_behind taken trace (e.Closed l cause) old new same left stands.1), did.2)
 
 -- what is said of what was done is said of it so
 pub on_ok : {A E : Type 0} (P C Q : Type 0) (r : Result A E) → (P → C → Q) → OnOk r P → OnOk r C → OnOk r Q

@@ -1,6 +1,6 @@
 -- The node that the event loop runs: a proxy that is asked for so, with audits to which its notes are told.
 use Rattle.std.specs.Prelude.{◌≡◌, List, []}
-use Rattle.hb_audit.specs.Tells.{Answering, Tells}
+use Rattle.hb_audit.specs.Tells.{Answering}
 use Rattle.hb_base.specs.declared.ip.Ip.TheVariants.{V4}
 use Rattle.hb_base.specs.declared.note.Note.{Note}
 use Rattle.hb_held.specs.Held.{no_doors}
@@ -8,6 +8,7 @@ use Rattle.hb_model.specs.declared.config.NodeConfig.{NodeConfig}
 use Rattle.hb_whole.specs.Stands.{Stands, config_of}
 use Rattle.hb_whole.specs.declared.proxy.Proxy.{Proxy}
 use Rattle.hb_world.specs.declared.entry.Entry.{Entry}
+use Rattle.hb_reason.specs.Reasons.{Hear}
 
 -- what a run is asked for where no call names it
 
@@ -24,6 +25,6 @@ nobody = record {
 
 module _ {A : Type 0} (answers : Answering A) where
   -- the proxy stands for a trace, once these notes of it were taken; it is asked for so, and of these audits those are left to which the
-  -- notes were told
+  -- notes were told, with their reasons
   abbrev pub StandsWith : NodeConfig → List A → List Note → Proxy → List A → List Entry → Type 0
-  StandsWith g before taken p now trace = Stands taken p trace × ((config_of p ≡ g) × Tells answers before now taken)
+  StandsWith g before taken p now trace = Stands taken p trace × ((config_of p ≡ g) × Hear answers g trace before now taken)

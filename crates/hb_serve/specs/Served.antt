@@ -1,7 +1,6 @@
 -- What holds of a run of the proxy that is over.
 use Rattle.std.specs.Prelude.{◌≡◌, ◌⊎◌, ℕ, false, List, [], ◌++◌, Option}
 use Rattle.std.specs.Option.{option_to_list}
-use Rattle.hb_audit.specs.Tells as audits
 use Rattle.hb_audit.specs.Tells.{Answering}
 use Rattle.hb_base.specs.declared.note.Note.{Note}
 use Rattle.hb_captured.specs.Calm as captured
@@ -27,6 +26,7 @@ use Rattle.hb_whole.specs.Stands.{Stands, config_of}
 use Rattle.hb_whole.specs.declared.proxy.Proxy.{Proxy}
 use Rattle.hb_world.specs.declared.entry.Entry.{Entry}
 use Rattle.hb_laws.specs.Lawful.{Lawful, GoesOn}
+use Rattle.hb_reason.specs.Reasons.{Hear}
 use Rattle.hb_serve.specs.declared.words.ServeWords.{ServeWords}
 
 -- the node that is asked for stands for a trace, of whose notes these were taken
@@ -44,16 +44,16 @@ loop_words doors turns ticks = record {
 abbrev pub words_of : ServeWords → LoopWords
 words_of w = loop_words w.config.doors w.turns w.ticks
 
--- nothing more happens by itself on any link, and no call is due on one: all that came is looked at, each response is applied, and what ended
--- for that is closed
+-- nothing more happens by itself on any link, and no call is due on one: all that came is looked at, each response is applied, and what
+-- ended for that is closed
 pub record IsAtRest (x : Machine) : Type 0 where
   pub control : model.IsQuiet x.control
   pub links : (l : ℕ) → inbound.IsQuiet (x.inbound l)
   pub plain : (l : ℕ) → captured.IsQuiet (x.plain l)
   pub gates : GatesLet false x
 
--- a run that goes on left these entries; where its turns are spent it is at rest behind them; where memory lacked it left all but at most the
--- last
+-- a run that goes on left these entries; where its turns are spent it is at rest behind them; where memory lacked it left all but at most
+-- the last
 abbrev pub AreLawful : NodeConfig → ServeEnd → List Entry → Type 0
 AreLawful g ends.TurnsSpent trace = (on : GoesOn g trace) × IsAtRest on.lawful.machine
 AreLawful g ends.NoMemory trace = (front : List Entry) × (last : Option Entry) × (trace ≡ front ++ option_to_list last) × GoesOn g front
@@ -109,13 +109,13 @@ pub record Heard {A : Type 0} (own : Answering A) : Type 0 where
 abbrev pub heard_of : {A : Type 0} (own : Answering A) → List A → List A → Heard own
 heard_of own before after = record { before = before; after = after }
 
--- unless memory lacked, all notes of the run were told to the audits, one after the other, each gave answers of its own, and those are
--- left that kept each
+-- unless memory lacked, all notes of the run were told to the audits, one after the other, each with its reason; each audit gave answers of
+-- its own, and those are left that kept each
 abbrev pub AreTold : {A : Type 0} {own : Answering A} (words : ServeWords) (served : Served) (keep : Option (List Note))
     (trace : List Entry)
     → IsServed words served keep trace → Heard own → Type 0
 AreTold {A} {own} words served keep trace run heard = (lacks_none : served.end ≡ ends.NoMemory → ⊥) (keeps_all : served.unkept ≡ false)
-    → audits.Tells own heard.before heard.after (run.noted lacks_none keeps_all).notes
+    → Hear own words.config trace heard.before heard.after (run.noted lacks_none keeps_all).notes
 
 -- a run was served, and its notes told; or nothing was done
 abbrev pub Serves : {A : Type 0} {own : Answering A} → ServeWords → Served → Option (List Note) → Heard own → List Entry → Type 0

@@ -2,13 +2,15 @@
 //! as they were before the run.
 
 ghost use Rattle.std.specs.Prelude.{◌≡◌, ◌++◌, List};
-ghost use Rattle.std.specs.Option.{option_to_list};
 ghost use Rattle.hb_audit.specs.HeldBy.{each, answers_by};
 ghost use Rattle.hb_audit.specs.Tells.{Tells};
-ghost use Rattle.hb_base.specs.declared.note.Note.{Note};
+ghost use Rattle.hb_audit.specs.Told.{Told};
+ghost use Rattle.hb_reason.specs.Reasons.{told_by};
 
 use hb_audit::{Audit, Audits};
 use hb_base::{Cause, Door, NoMemory, Note, Why};
+use hb_held::Held;
+use hb_reason::reason_beside;
 use hb_turns::Node;
 use hb_whole::Proxy;
 use hb_world::Act;
@@ -62,14 +64,14 @@ impl<G: Given<A>, A: Audit> Asked<G, A> {
     }
 }
 
-/// Tells a note, where there is one.
-fn tell<A: Audit>(audits: &mut Audits<A>, note: &Option<Note>)
-    ensures { (before : List A) (taken : List Note) → Tells (answers_by A.notes A.answers) before (each audits.old) taken
-        → Tells (answers_by A.notes A.answers) before (each audits.new) (taken ++ option_to_list note.now) }
+/// Tells a note, where there is one, with its reason by what is held.
+fn tell<A: Audit>(audits: &mut Audits<A>, held: &Held, note: &Option<Note>)
+    ensures { (before : List A) (told : List Told) → Tells (answers_by A.notes A.answers) before (each audits.old) told
+        → Tells (answers_by A.notes A.answers) before (each audits.new) (told ++ told_by held.now note.now) }
 {
     match note {
-        Some(told) => {
-            let _ = audits.tell(told);
+        Some(made) => {
+            let _ = audits.tell(made, reason_beside(held, made));
         }
         None => {}
     }
@@ -79,6 +81,7 @@ impl<G: Given<A>, A: Audit> Node for Asked<G, A> {
     ghost use Rattle.hb_audit.specs.HeldBy.{each, answers_by};
     ghost use Rattle.hb_whole.proofs.Resting as whole;
     ghost use Rattle.hb_whole.specs.Sight.{shown_of};
+    ghost use Rattle.hb_reason.proofs.Hearing.{longer};
     ghost use Rattle.hb_serve.specs.Asked.{StandsWith};
 
     ghost stands = { λ taken node trace.
@@ -139,10 +142,11 @@ impl<G: Given<A>, A: Audit> Node for Asked<G, A> {
         self.proxy.next_act()
     }
 
-    /// Each note is told to the audits when it is taken; one that doesn't keep it is dropped, and the run goes on.
+    /// Each note is told to the audits when it is taken, with its reason by what is held then; one that doesn't keep it is dropped, and the
+    /// run goes on.
     fn next_note(&mut self) -> Result<Option<Note>, NoMemory> {
         let note = self.proxy.next_note()?;
-        tell(&mut self.audits, &note);
+        tell(&mut self.audits, self.proxy.held(), &note);
         Ok(note)
     }
 
@@ -154,5 +158,8 @@ impl<G: Given<A>, A: Audit> Node for Asked<G, A> {
         self.proxy.next_stirred()
     }
 
-    ghost rests = { λ taken node trace x moves stands. (whole.rests taken node.proxy trace x moves stands.0, stands.1) };
+    ghost rests = { λ taken node trace x moves stands. (
+      whole.rests taken node.proxy trace x moves stands.0,
+      (stands.1.0, longer G.config trace (answers_by A.notes A.answers) G.before x (each node.audits) taken stands.1.1),
+    ) };
 }

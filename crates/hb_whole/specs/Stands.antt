@@ -9,6 +9,7 @@ use Rattle.hb_captured.specs.Answer.{address_of, why_for}
 use Rattle.hb_captured.specs.Captured as plain
 use Rattle.hb_captured.specs.Captured.{Captured}
 use Rattle.hb_gateway.specs.Gateway as gateway
+use Rattle.hb_held.specs.Held.{Resources}
 use Rattle.hb_inbound.specs.Inbound as inbound
 use Rattle.hb_inbound.specs.Inbound.{Inbound}
 use Rattle.hb_inbound.specs.Tunnel as t
@@ -30,6 +31,10 @@ use Rattle.hb_whole.specs.declared.proxy.Proxy.{Proxy}
 -- what the node is told of itself
 abbrev pub config_of : Proxy → NodeConfig
 config_of p = p.control.config
+
+-- what it holds
+abbrev pub held_of : Proxy → Resources
+held_of p = p.control.held
 
 -- all notes of a run are those that were taken, and those that wait; nothing is known once one was lost
 abbrev pub AreNotes : List Note → Option (List Note) → List Point → Type 0

@@ -10,13 +10,15 @@ ghost use Rattle.hb_turns.specs.Shown.{IsFront, IsSame, Hears, Tells, StandsForN
 ghost use Rattle.hb_frames.specs.Frames.{AreOctets};
 ghost use Rattle.hb_turns.specs.Served.{IsFreshNode};
 ghost use Rattle.hb_whole.specs.Acting.{dial_in, is_strange, given_by, act_of};
+ghost use Rattle.hb_whole.specs.Queue.{told};
 ghost use Rattle.hb_whole.specs.Sight.{owns, owner_of, own_told, has_room, places_of, shown_of};
-ghost use Rattle.hb_whole.specs.Stands.{Stands, config_of};
+ghost use Rattle.hb_whole.specs.Stands.{Stands, config_of, held_of};
 
 use crate::owner::Owner;
 use crate::queue::Queue;
 use crate::side::Side;
 use hb_base::{Cause, Door, NoMemory, Note, Target, Why};
+use hb_held::Held;
 use hb_links::Links;
 use hb_model::{Act as ControlAct, Limits, NodeConfig};
 use hb_node::Node as Control;
@@ -82,6 +84,13 @@ impl Proxy {
             ends_for: None,
             strange: false,
         })
+    }
+
+    /// The resources that are held.
+    pub fn held(&self) -> &Held
+        ensures { result.now ≡ held_of self.now }
+    {
+        self.control.held()
     }
 
     /// Whether a link is the one to the control plane that lives.
@@ -407,6 +416,7 @@ impl Proxy {
         ensures takes { IfOk result (λ note. (notes : List Note) (trace : List Entry) → Stands notes self.old trace
             → Stands (notes ++ option_to_list note) self.new trace) }
         ensures config { config_of self.new ≡ config_of self.old }
+        ensures still { IfOk result (λ note. told self.new.side.notes ≡ Some (shown_of self.new).noted) }
     {
         self.side.notes.next()
     }

@@ -6,36 +6,37 @@ use Rattle.hb_audit.specs.declared.audit.Noted.TheVariants.{Kept, Failed, NoMemo
 use Rattle.hb_audit.specs.MemAudit.{Auditing, fails, after_note, answers_so}
 use Rattle.hb_audit.specs.Refused.{first, second, roomy, full_of}
 use Rattle.hb_audit.specs.Tells.{left_by, Gave, TellsOne}
+use Rattle.hb_audit.specs.Told.{plain}
 use Rattle.hb_audit.proofs.laws.audits_in_memory_answer_as_they_stand.Goals as goal
 
 -- what one that kept a note gave
-abbrev kept : (a : Auditing) (n : Note) → fails a ≡ false → Gave answers_so a n
+abbrev kept : (a : Auditing) (n : Note) → fails a ≡ false → Gave answers_so a (plain n)
 kept a n well = record { answer = Kept; after = after_note a n Kept; own = (sym well, refl); others = [] }
 
 module _ (a : Auditing) (left : List Auditing) (n : Note) where
   -- one alone that is told a note is left as it is once it kept that, or isn't left
-  left_or_gone : (answer : Noted) (after : Auditing) (others : List Auditing) → answers_so a n answer after
+  left_or_gone : (answer : Noted) (after : Auditing) (others : List Auditing) → answers_so a (plain n) answer after
       → left ≡ left_by answer after others → others ≡ [] → (left ≡ []) ⊎ (left ≡ after_note a n Kept ∷ [])
   left_or_gone Kept after others own is none = inr (is ∙ ap (λ (l : List Auditing). after ∷ l) none ∙ ap (λ (b : Auditing). b ∷ []) own.1)
   left_or_gone Failed after others own is none = inl (is ∙ none)
   left_or_gone NoMemory after others own is none = inl (is ∙ none)
 
-  one_left : TellsOne answers_so (a ∷ []) left n → (left ≡ []) ⊎ (left ≡ after_note a n Kept ∷ [])
+  one_left : TellsOne answers_so (a ∷ []) left (plain n) → (left ≡ []) ⊎ (left ≡ after_note a n Kept ∷ [])
   one_left told = left_or_gone told.0.answer told.0.after told.0.others told.0.own told.1 told.2
 
   -- one that fails isn't left
-  gone : fails a ≡ true → (answer : Noted) (after : Auditing) (others : List Auditing) → answers_so a n answer after
+  gone : fails a ≡ true → (answer : Noted) (after : Auditing) (others : List Auditing) → answers_so a (plain n) answer after
       → left ≡ left_by answer after others → others ≡ [] → left ≡ []
   gone failing Kept after others own is none = let no : false ≡ true = own.0 ∙ failing in absurd cc
   gone failing Failed after others own is none = is ∙ none
   gone failing NoMemory after others own is none = let no : false ≡ true = own.0 ∙ failing in absurd cc
 
-  failing_goes : fails a ≡ true → TellsOne answers_so (a ∷ []) left n → left ≡ []
+  failing_goes : fails a ≡ true → TellsOne answers_so (a ∷ []) left (plain n) → left ≡ []
   failing_goes failing told = gone failing told.0.answer told.0.after told.0.others told.0.own told.1 told.2
 
 -- where the first note left none, or the audit so
 abbrev Behind : List Auditing → List Auditing → Type 0
-Behind between left = (last : List Auditing) × TellsOne answers_so between last second × (left ≡ last)
+Behind between left = (last : List Auditing) × TellsOne answers_so between last (plain second) × (left ≡ last)
 
 none_behind : (left : Auditing) → Behind [] (left ∷ []) → ⊥
 none_behind left t = let no : (left ∷ []) ≡ [] = t.2 ∙ t.1 in absurd cc

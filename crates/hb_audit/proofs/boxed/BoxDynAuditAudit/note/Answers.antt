@@ -1,12 +1,14 @@
 use Rattle.std.proofs.Common.{rules, ◌≡◌, ◌≤◌}
 use Rattle.hb_base.specs.Count.{Counts}
 use Rattle.hb_audit.specs.Held.{held_after, has_failed}
+use Rattle.hb_audit.specs.Told.{told_of}
 use Rattle.hb_audit.proofs.Lent.{lent, so_then}
 use Rattle.hb_audit.proofs.boxed.BoxDynAuditAudit.note.Goals as goal
 
 pub returns-clause-own : goal.returns-clause-own
 returns-clause-own g c =
-    lent _ (λ i x y. (goal.Audit-dyn g (i, x)).answers x c.args.n.now c.note.result y) c.args.self.now _ c.note.new.self (search rules)
+    lent _ (λ i x y. (goal.Audit-dyn g (i, x)).answers x (told_of c.args.n.now c.args.reason) c.note.result y) c.args.self.now _
+    c.note.new.self (search rules)
     c.note.ensures.0
 
 pub returns-clause-held : goal.returns-clause-held

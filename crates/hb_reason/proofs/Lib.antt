@@ -1,0 +1,2 @@
+mod Denying
+pub mod Hearing

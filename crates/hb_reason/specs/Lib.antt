@@ -1,0 +1,3 @@
+pub mod Denial
+pub mod DenialLaws
+pub mod Reasons
