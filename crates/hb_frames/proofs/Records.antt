@@ -1,6 +1,6 @@
 -- Records by their parts.
 use Rattle.std.proofs.Common.{ℕ, List}
-use Rattle.hb_frames.specs.BoundedBytes.{BoundedBytes}
+use Rattle.hb_buffer.specs.BoundedBytes.{BoundedBytes}
 use Rattle.hb_frames.specs.RawFrame.{RawFrame}
 use Rattle.hb_frames.specs.Reading.{Reading}
 

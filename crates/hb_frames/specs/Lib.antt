@@ -1,5 +1,4 @@
 pub mod Bodies
-pub mod BoundedBytes
 pub mod Calls
 pub mod FrameOf
 pub mod Frames

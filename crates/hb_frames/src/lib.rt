@@ -3,7 +3,6 @@
 #![tactic(auto)]
 
 mod body;
-mod buffer;
 mod fault;
 mod frame;
 mod head;

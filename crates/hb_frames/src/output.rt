@@ -4,9 +4,9 @@ ghost use Rattle.std.specs.Prelude.{◌≡◌, ◌+◌, ◌-◌, ◌≤◌, ◌+
 ghost use Rattle.hb_frames.specs.Numbers.{largest, largest_frame_size};
 ghost use Rattle.hb_frames.specs.RawFrame.{spelling};
 
-use crate::buffer::Buffer;
 use crate::octets::word;
 use hb_base::NoMemory;
+use hb_buffer::Buffer;
 use std::alloc::Global;
 use std::marker::Model;
 
@@ -17,7 +17,7 @@ pub struct Output {
 }
 
 impl Model for Output {
-    ghost use Rattle.hb_frames.specs.BoundedBytes.{BoundedBytes};
+    ghost use Rattle.hb_buffer.specs.BoundedBytes.{BoundedBytes};
 
     ghost Value = { BoundedBytes };
 

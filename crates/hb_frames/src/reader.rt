@@ -6,13 +6,13 @@ ghost use Rattle.hb_frames.specs.RawFrame.{raw_at};
 ghost use Rattle.hb_frames.specs.Bodies.{lent_of};
 ghost use Rattle.hb_frames.specs.Reading.{StandsInFront};
 
-use crate::buffer::Buffer;
 use crate::fault::FrameFault;
 use crate::frame::{Frame, first_frame, frame_at};
 use crate::head::{HEADER, Head};
 use crate::numbers::{CONTINUATION, SETTINGS};
 use crate::refusal::{front_len, has_content, padding_len};
 use hb_base::{NoMemory, Scope};
+use hb_buffer::Buffer;
 use std::alloc::Global;
 use std::marker::Model;
 

@@ -1,7 +1,8 @@
 //! What may be put on the streams of tunnels that live.
 
 ghost use Rattle.std.specs.Prelude.{◌≡◌, ℕ, ◌+◌};
-ghost use Rattle.hb_link.specs.Putting.{count_here, bytes_put, conn_bytes, data_seen, may_finish, end_counted, conn_finished, lives_in, PutsBelow};
+ghost use Rattle.hb_link.specs.Putting.{count_here, bytes_put, conn_bytes, data_seen, may_finish};
+ghost use Rattle.hb_link.specs.Putting.{end_counted, conn_finished, lives_in, PutsBelow};
 ghost use Rattle.hb_link.specs.Rousing.{Rouses};
 ghost use Rattle.hb_link.specs.Settling.{MayPut, AlwaysSettles};
 ghost use Rattle.hb_link.specs.Shows.{Shows};
@@ -38,7 +39,7 @@ impl Tunnel {
         ensures conn { conn.new ≡ conn_bytes conn.old stream self.old }
     {
         if conn.output().is_empty() && conn.sides(stream).own {
-            let count = conn.put_some(stream, self.ways.all_down());
+            let count = conn.put_some(stream, self.ways.held_down());
             self.ways.took_down(count);
             count
         } else {

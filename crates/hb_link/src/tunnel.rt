@@ -129,7 +129,7 @@ impl Tunnel {
         ensures { IsFront result.now (held_of_up self.now) }
     {
         match self.stage {
-            Stage::Live => self.ways.head_up(),
+            Stage::Live => self.ways.held_up(),
             _ => b"",
         }
     }

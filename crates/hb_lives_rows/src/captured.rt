@@ -161,7 +161,7 @@ impl Life {
         let (bytes, count) = cut(words, " of them ");
         let n = number_of(rt, count) as usize;
         must(rt, at, self.relay.has_waiting());
-        let waiting = &*self.relay.waiting();
+        let waiting = self.relay.waiting();
         must(rt, at, waiting == bytes.as_bytes());
         must(rt, at, n <= bytes.as_bytes().len());
         self.relay.put(n);

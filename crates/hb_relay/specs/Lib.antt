@@ -2,7 +2,6 @@ pub mod Acts
 pub mod Answering
 pub mod Calls
 pub mod Ending
-pub mod Lending
 pub mod Moving
 pub mod Reaches
 pub mod Refused

@@ -136,7 +136,7 @@ impl Relay {
         ensures machine { Holds self.now (output (captured_of self.now)) }
     {
         match self.stage {
-            Stage::Live => self.ways.head_down(),
+            Stage::Live => self.ways.held_down(),
             _ => b"",
         }
     }
@@ -147,7 +147,7 @@ impl Relay {
         ensures machine { UpHolds self.now (up_output (captured_of self.now)) }
     {
         match self.stage {
-            Stage::Live => self.ways.head_up(),
+            Stage::Live => self.ways.held_up(),
             _ => b"",
         }
     }

@@ -1,11 +1,9 @@
 //! The bytes that wait on both ways of a link.
 
 ghost use Rattle.std.specs.Prelude.{◌≡◌, ◌+◌, ◌≤◌, true, length, IfOk};
-ghost use Rattle.std.specs.Borrow.{sem};
 ghost use Rattle.hb_captured.specs.Captured.{ring_up, ring_down};
-ghost use Rattle.hb_relay.specs.Lending.{lends_up};
 ghost use Rattle.hb_relay.specs.Rings.{fresh_rings, pushed};
-ghost use Rattle.hb_tunnel.specs.Way.{takes, ends, after, is_done, IsFront};
+ghost use Rattle.hb_tunnel.specs.Way.{takes, ends, after, is_done};
 
 use hb_base::{Door, NoMemory};
 use hb_tunnel::{DOWN_SIZE, Ring, UP_SIZE};
@@ -138,26 +136,18 @@ impl Rings {
         }
     }
 
-    /// A front part of the bytes that wait on the way up; none only where none waits.
-    pub fn head_up(&self) -> &[u8]
-        ensures { IsFront result.now self.now.ways.up.held }
+    /// The bytes that wait on the way up, in order.
+    pub fn held_up(&self) -> &[u8]
+        ensures { result.now ≡ self.now.ways.up.held }
     {
-        self.up.head()
+        self.up.held()
     }
 
-    /// A front part of the bytes that wait on the way down; none only where none waits.
-    pub fn head_down(&self) -> &[u8]
-        ensures { IsFront result.now self.now.ways.down.held }
+    /// The bytes that wait on the way down, in order.
+    pub fn held_down(&self) -> &[u8]
+        ensures { result.now ≡ self.now.ways.down.held }
     {
-        self.down.head()
-    }
-
-    /// All bytes that wait on the way up, in one piece. A caller that only reads them leaves the rings as they were.
-    pub fn all_up(&mut self) -> &mut [u8]
-        ensures* writes_back { sem 𝓛 (lends_up self.entry result) }
-        ensures value { result.now ≡ self.old.ways.up.held }
-    {
-        self.up.all()
+        self.down.held()
     }
 
     /// The first `n` bytes that waited on the way up were written.

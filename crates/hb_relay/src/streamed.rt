@@ -1,12 +1,10 @@
 //! The stream of a link to a gateway that carries the tunnel of a link.
 
 ghost use Rattle.std.specs.Prelude.{◌≡◌, ◌≤◌, length};
-ghost use Rattle.std.specs.Borrow.{sem};
 ghost use Rattle.std.specs.Option.{option_map};
 ghost use Rattle.hb_captured.specs.Captured.{at_stage, live, told_by};
 ghost use Rattle.hb_gateway.specs.Response.{opens};
 ghost use Rattle.hb_relay.specs.Answering.{routing_of, wanted_as};
-ghost use Rattle.hb_relay.specs.Lending.{LendsWaiting};
 ghost use Rattle.hb_relay.specs.Moving.{on_stream};
 ghost use Rattle.hb_relay.specs.Shows.{captured_of, Becomes};
 ghost use Rattle.hb_relay.specs.Streamed.{Asks, LacksRoom, HearsOpen, HearsBytes, HearsEnd, HearsFailure};
@@ -114,20 +112,19 @@ impl Relay {
         self.on_stream()
     }
 
-    /// The bytes that wait for its stream, in one piece. A caller that only reads them leaves the link as it was.
-    pub fn waiting(&mut self) -> &mut [u8]
-        ensures* writes_back { sem 𝓛 (LendsWaiting self.entry result) }
-        ensures value { result.now ≡ (captured_of self.old).ways.up.held }
-        ensures machine { Waits self.old result.now }
+    /// The bytes that wait for its stream, in order.
+    pub fn waiting(&self) -> &[u8]
+        ensures value { result.now ≡ (captured_of self.now).ways.up.held }
+        ensures machine { Waits self.now result.now }
     {
-        self.ways.all_up()
+        self.ways.held_up()
     }
 
     /// Some bytes wait for its stream.
     pub fn has_waiting(&self) -> bool
         ensures { HasWaiting self.now result }
     {
-        !self.ways.head_up().is_empty()
+        !self.ways.held_up().is_empty()
     }
 
     /// The first `n` of them were put.

@@ -30,10 +30,9 @@ fn give_back(relay: &mut Relay, gate: &mut Gate, stream: u32)
 }
 
 /// As many of the bytes that wait as may be are put in a frame. How many.
-fn put_waiting(relay: &mut Relay, gate: &mut Gate, stream: u32) -> usize
-    ensures same { relay.new ≡ relay.old }
-    ensures puts { Puts stream (captured_of relay.old).ways.up.held result gate.old gate.new }
-    ensures most { result ≤ length (captured_of relay.old).ways.up.held }
+fn put_waiting(relay: &Relay, gate: &mut Gate, stream: u32) -> usize
+    ensures puts { Puts stream (captured_of relay.now).ways.up.held result gate.old gate.new }
+    ensures most { result ≤ length (captured_of relay.now).ways.up.held }
 {
     gate.put(stream, relay.waiting())
 }

@@ -1,4 +1,3 @@
 pub mod Laws
-pub mod Lending
 pub mod Tunnel
 pub mod Way

@@ -1,19 +1,17 @@
 //! One way of a tunnel.
 
 ghost use Rattle.std.specs.Prelude.{◌≡◌, ◌+◌, ◌≤◌, length, IfOk, IsFalse};
-ghost use Rattle.std.specs.Borrow.{sem};
-ghost use Rattle.hb_tunnel.specs.Lending.{lends_bytes};
-ghost use Rattle.hb_tunnel.specs.Way.{empty_way, pushes, takes, ends, after, is_done, IsFront};
+ghost use Rattle.hb_tunnel.specs.Way.{empty_way, pushes, takes, ends, after, is_done};
 
-use circular_buffer::HeapCircularBuffer;
 use hb_base::NoMemory;
+use hb_buffer::Buffer;
 use std::alloc::Global;
 use std::marker::Model;
 
 /// The bytes that wait on one way, and whether it has ended. `new` takes its memory; no other call takes any.
 #[derive(Drop)]
 pub struct Ring {
-    pub(crate) bytes: HeapCircularBuffer<u8>,
+    pub(crate) bytes: Buffer,
     pub(crate) has_ended: bool,
 }
 
@@ -23,7 +21,7 @@ impl Model for Ring {
     ghost Value = { Sized };
 
     ghost view = { λ r. record {
-      size = r.bytes.capacity;
+      size = r.bytes.size;
       way = record { held = r.bytes.items; has_ended = r.has_ended };
     } };
 }
@@ -35,7 +33,7 @@ impl Ring {
     pub fn new(alloc: Global, size: usize) -> Result<Ring, NoMemory>
         ensures { IfOk result (λ ring. ring ≡ record { size = size; way = empty_way }) }
     {
-        let bytes = HeapCircularBuffer::with_capacity(alloc, size)?;
+        let bytes = Buffer::new(alloc, size)?;
         Ok(Ring {
             bytes,
             has_ended: false,
@@ -46,7 +44,7 @@ impl Ring {
     pub fn room(&self) -> usize
         ensures { result + length self.now.way.held ≡ self.now.size }
     {
-        self.bytes.capacity() - self.bytes.len()
+        self.bytes.room()
     }
 
     /// The way has ended: no further byte comes.
@@ -62,23 +60,14 @@ impl Ring {
         requires goes_on { IsFalse self.old.way.has_ended }
         ensures { self.new ≡ record self.old { way = after self.old.way (pushes bytes.now) } }
     {
-        self.bytes.fill_from_slice(bytes);
+        self.bytes.append(bytes);
     }
 
-    /// The first bytes that wait: those up to the end of the ring's block. None only where none waits.
-    pub fn head(&self) -> &[u8]
-        ensures { IsFront result.now self.now.way.held }
+    /// The bytes that wait, in order.
+    pub fn held(&self) -> &[u8]
+        ensures { result.now ≡ self.now.way.held }
     {
-        let (front, wrapped) = self.bytes.as_slices();
-        if front.is_empty() { wrapped } else { front }
-    }
-
-    /// All bytes that wait, in one piece: those of a ring that wraps are moved. A caller that only reads them leaves the ring as it was.
-    pub fn all(&mut self) -> &mut [u8]
-        ensures* writes_back { sem 𝓛 (lends_bytes self.entry result) }
-        ensures value { result.now ≡ self.old.way.held }
-    {
-        self.bytes.make_contiguous()
+        self.bytes.as_slice()
     }
 
     /// Takes the first `count` bytes away.
@@ -86,7 +75,7 @@ impl Ring {
         requires { count ≤ length self.old.way.held }
         ensures { self.new ≡ record self.old { way = after self.old.way (takes count) } }
     {
-        self.bytes.truncate_front(self.bytes.len() - count);
+        self.bytes.drop_front(count);
     }
 
     /// No further byte comes.
@@ -100,6 +89,6 @@ impl Ring {
     pub fn is_done(&self) -> bool
         ensures { result ≡ is_done self.now.way }
     {
-        self.has_ended && self.bytes.is_empty()
+        self.has_ended && self.bytes.as_slice().is_empty()
     }
 }

@@ -1,9 +1,7 @@
 //! Both ways of a tunnel.
 
 ghost use Rattle.std.specs.Prelude.{◌≡◌, ◌&&◌, ◌+◌, ◌≤◌, length, true, IfOk, IsFalse};
-ghost use Rattle.std.specs.Borrow.{sem};
-ghost use Rattle.hb_tunnel.specs.Lending.{lends_down};
-ghost use Rattle.hb_tunnel.specs.Way.{pushes, takes, ends, after, is_done, IsFront};
+ghost use Rattle.hb_tunnel.specs.Way.{pushes, takes, ends, after, is_done};
 ghost use Rattle.hb_tunnel.specs.Tunnel.{dialling, up_size, down_size, phase_of};
 
 use crate::phase::Phase;
@@ -105,12 +103,11 @@ impl Tunnel {
         self.up.push(bytes);
     }
 
-    /// A front part of the bytes that wait on the way up; none only where none waits. It isn't always all of them: a
-    /// ring may hold them in two parts, of which this is the first.
-    pub fn head_up(&self) -> &[u8]
-        ensures { IsFront result.now self.now.up.held }
+    /// The bytes that wait on the way up, in order.
+    pub fn held_up(&self) -> &[u8]
+        ensures { result.now ≡ self.now.up.held }
     {
-        self.up.head()
+        self.up.held()
     }
 
     /// The first `count` bytes that waited on the way up were written.
@@ -151,19 +148,11 @@ impl Tunnel {
         self.down.push(bytes);
     }
 
-    /// A front part of the bytes that wait on the way down; none only where none waits.
-    pub fn head_down(&self) -> &[u8]
-        ensures { IsFront result.now self.now.down.held }
+    /// The bytes that wait on the way down, in order.
+    pub fn held_down(&self) -> &[u8]
+        ensures { result.now ≡ self.now.down.held }
     {
-        self.down.head()
-    }
-
-    /// All bytes that wait on the way down, in one piece. A caller that only reads them leaves the tunnel as it was.
-    pub fn all_down(&mut self) -> &mut [u8]
-        ensures* writes_back { sem 𝓛 (lends_down self.entry result) }
-        ensures value { result.now ≡ self.old.down.held }
-    {
-        self.down.all()
+        self.down.held()
     }
 
     /// The first `count` bytes that waited on the way down were put.

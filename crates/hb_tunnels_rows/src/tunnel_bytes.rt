@@ -46,7 +46,7 @@ fn push_down(rt: &impl Abort, tunnel: &mut Tunnel, bytes: &[u8]) {
 
 /// Takes what is handed out, at most so many bytes, and tells how many they were. They are those from this place on.
 fn take_up(rt: &impl Abort, tunnel: &mut Tunnel, most: usize, place: usize) -> usize {
-    let head = tunnel.head_up();
+    let head = tunnel.held_up();
     let count = head.len().min(most);
     assert!(rt; is_from(&head[..count], place), "up at {place}");
     tunnel.took_up(count);
@@ -54,7 +54,7 @@ fn take_up(rt: &impl Abort, tunnel: &mut Tunnel, most: usize, place: usize) -> u
 }
 
 fn take_down(rt: &impl Abort, tunnel: &mut Tunnel, most: usize, place: usize) -> usize {
-    let head = tunnel.head_down();
+    let head = tunnel.held_down();
     let count = head.len().min(most);
     assert!(rt; is_from(&head[..count], place), "down at {place}");
     tunnel.took_down(count);
@@ -104,7 +104,7 @@ fn bytes_go_down_in_one_piece_round_the_ring(rt: HostRuntime) {
         let bytes = piece(&rt, rt.alloc(), came, tunnel.room_down().min(9_000));
         came = came.saturating_add(bytes.len());
         push_down(&rt, &mut tunnel, &bytes);
-        let held = tunnel.all_down();
+        let held = tunnel.held_down();
         assert!(rt; is_from(held, taken) && taken.saturating_add(held.len()) == came);
         let count = held.len().min(7_000);
         tunnel.took_down(count);
@@ -112,7 +112,7 @@ fn bytes_go_down_in_one_piece_round_the_ring(rt: HostRuntime) {
     }
     tunnel.end_down();
     assert!(rt; came > 140_000 && !tunnel.down_done());
-    let rest = tunnel.all_down().len();
+    let rest = tunnel.held_down().len();
     tunnel.took_down(rest);
     assert!(rt; tunnel.down_done());
 }

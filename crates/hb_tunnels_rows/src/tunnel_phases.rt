@@ -68,12 +68,12 @@ fn push_down(rt: &impl Abort, tunnel: &mut Tunnel) {
 }
 
 fn take_up(rt: &impl Abort, tunnel: &mut Tunnel) {
-    assert!(rt; tunnel.head_up().first() == Some(&b'u'));
+    assert!(rt; tunnel.held_up().first() == Some(&b'u'));
     tunnel.took_up(1);
 }
 
 fn take_down(rt: &impl Abort, tunnel: &mut Tunnel) {
-    assert!(rt; tunnel.head_down().first() == Some(&b'd'));
+    assert!(rt; tunnel.held_down().first() == Some(&b'd'));
     tunnel.took_down(1);
 }
 

@@ -41,7 +41,7 @@ fn a_tunnel_is_made_at_the_next_try(rt: HostRuntime) {
         Ok(tunnel) => tunnel,
         Err(NoMemory) => Tunnel::new(alloc).expect(&rt, "wanting again"),
     };
-    assert!(&rt; tunnel.head_up().is_empty(), "bytes in a new tunnel");
+    assert!(&rt; tunnel.held_up().is_empty(), "bytes in a new tunnel");
 }
 
 /// Puts a header behind one byte, and says whether memory was wanting; then the byte stands alone.

@@ -4,7 +4,7 @@ use Rattle.hb_frames.specs.RawFrame.{raw_at}
 use Rattle.hb_frames.specs.Frames.{HasNoFrame}
 use Rattle.hb_frames.specs.Bodies.{IsFrame, lent_of}
 use Rattle.hb_frames.specs.Reading.{first_of, IsFirst}
-use Rattle.hb_frames.specs.BoundedBytes.{BoundedBytes}
+use Rattle.hb_buffer.specs.BoundedBytes.{BoundedBytes}
 use Rattle.hb_frames.proofs.Records.{reading}
 use Rattle.hb_frames.proofs.Readings.{same_reading, asked_some, asked_none}
 use Rattle.hb_frames.proofs.reader.FrameReader.next_frame.Goals as goal

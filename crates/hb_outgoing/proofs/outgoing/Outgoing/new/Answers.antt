@@ -1,5 +1,5 @@
 use Rattle.std.proofs.Common.{ap, false, ◌∙◌, sym, subst, None, []}
-use Rattle.hb_frames.specs.BoundedBytes.{BoundedBytes}
+use Rattle.hb_buffer.specs.BoundedBytes.{BoundedBytes}
 use Rattle.hb_outgoing.specs.Known.{NoDataBefore}
 use Rattle.hb_outgoing.proofs.Views.{Inside, view, none_waits}
 use Rattle.hb_outgoing.proofs.Known.{KnowsBehind, knows_none, knows_becomes}

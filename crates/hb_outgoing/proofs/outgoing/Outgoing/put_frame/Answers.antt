@@ -1,7 +1,7 @@
 use Rattle.std.specs.Prelude.{◌==◌, if◌then◌else◌}
 use Rattle.std.proofs.Common.{ℕ, List, ◌++◌, ◌∷◌, [], drop, ◌≡◌, ◌≤◌, ◌+◌, length, ap, ◌∙◌, sym, subst, arith, length-drop}
 use Rattle.hb_frames.specs.RawFrame.{Fits}
-use Rattle.hb_frames.specs.BoundedBytes.{BoundedBytes}
+use Rattle.hb_buffer.specs.BoundedBytes.{BoundedBytes}
 use Rattle.hb_frames.proofs.Records.{raw}
 use Rattle.hb_outgoing.proofs.Queues.{octets_are}
 use Rattle.hb_outgoing.specs.Waiting.{Waiting, octets_of}
@@ -43,7 +43,8 @@ invariant_of-self c =
     let after = c.note.new.self in
     let fs = frames_of (drop rest items) in
     let kept = c.forget.new.self in
-    let forgotten = knows_forgotten c.self.inside.data_waits c.self.inside.count c.self.inside.streams kept fs inv.4 c.forget.ensures.stays in
+    let forgotten =
+    knows_forgotten c.self.inside.data_waits c.self.inside.count c.self.inside.streams kept fs inv.4 c.forget.ensures.stays in
     let notes : Notes kept after f = record { stays = c.note.ensures.stays; noted = c.note.ensures.noted } in
     let knows : KnowsData waits count after (frames_of (drop rest items) ++ f ∷ []) =
     knows_put c.self.inside.data_waits waits c.self.inside.count count kept after fs f forgotten

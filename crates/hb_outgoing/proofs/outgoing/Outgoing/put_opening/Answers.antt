@@ -1,5 +1,5 @@
 use Rattle.std.proofs.Common.{◌≡◌, ◌≤◌, List, ℕ, drop, ap, ◌∙◌, sym, subst, None, length}
-use Rattle.hb_frames.specs.BoundedBytes.{BoundedBytes}
+use Rattle.hb_buffer.specs.BoundedBytes.{BoundedBytes}
 use Rattle.hb_outgoing.specs.Queue.{AreWhole}
 use Rattle.hb_outgoing.specs.Known.{NoDataBefore}
 use Rattle.hb_outgoing.proofs.Views.{view, opening_alone, opening_waits}

@@ -1,6 +1,6 @@
 use Rattle.std.proofs.Common.{◌≡◌, List, ℕ, ap, ◌∙◌, sym, subst, drop, take, ◌++◌}
 use Rattle.std.specs.List.{filter}
-use Rattle.hb_frames.specs.BoundedBytes.{BoundedBytes}
+use Rattle.hb_buffer.specs.BoundedBytes.{BoundedBytes}
 use Rattle.hb_outgoing.specs.Selected.{is_kept, data_size}
 use Rattle.hb_outgoing.specs.Known.{NoDataBefore}
 use Rattle.hb_outgoing.specs.Waiting.{Waiting, spelled}

@@ -1,5 +1,5 @@
 use Rattle.std.proofs.Common.{◌≡◌, List, ℕ, ◌-◌, ap, ◌∙◌, sym, subst, drop, length, arith}
-use Rattle.hb_frames.specs.BoundedBytes.{BoundedBytes}
+use Rattle.hb_buffer.specs.BoundedBytes.{BoundedBytes}
 use Rattle.hb_outgoing.proofs.Views.{Inside, Ends, view, front_is_written}
 use Rattle.hb_outgoing.specs.Queue.{frames_of}
 use Rattle.hb_outgoing.specs.Written.{begun_in}

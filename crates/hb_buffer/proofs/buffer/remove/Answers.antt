@@ -1,8 +1,8 @@
 use Rattle.std.proofs.Common.{◌+◌, ◌-◌, ◌≤◌, ◌≡◌, List, ℕ, length, take, drop, ap, arith, ◌∙◌}
 use Rattle.std.proofs.lemmas.List.{with_items_is}
 use Rattle.std.specs.Prelude.{vec_len}
-use Rattle.hb_frames.proofs.Buffers.{cut_behind}
-use Rattle.hb_frames.proofs.buffer.remove.Goals as goal
+use Rattle.hb_buffer.proofs.Cutting.{cut_behind}
+use Rattle.hb_buffer.proofs.buffer.remove.Goals as goal
 
 pub returns-clause-kept : goal.returns-clause-kept
 returns-clause-kept c =

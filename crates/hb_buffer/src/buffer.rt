@@ -1,4 +1,4 @@
-//! A straight buffer of a fixed size, which both the reader and the output are made of.
+//! A straight buffer of a fixed size.
 
 ghost use Rattle.std.specs.Prelude.{◌≡◌, ◌+◌, ◌-◌, ◌≤◌, ◌++◌, [], length, take, drop, vec_capacity, vec_len, IfOk};
 
@@ -9,7 +9,7 @@ use std::marker::Model;
 /// Bytes that come in at the end and go out anywhere, at most as many as its size. Its memory is taken when it is made, and is
 /// touched only as far as bytes stood in it.
 #[derive(Drop)]
-pub(crate) struct Buffer {
+pub struct Buffer {
     /// What stands behind `start` is held.
     bytes: Vec<u8>,
     size: usize,
@@ -18,7 +18,7 @@ pub(crate) struct Buffer {
 
 impl Model for Buffer {
     ghost use Rattle.std.specs.Prelude.{◌≤◌, vec_capacity, vec_len, drop};
-    ghost use Rattle.hb_frames.specs.BoundedBytes.{BoundedBytes};
+    ghost use Rattle.hb_buffer.specs.BoundedBytes.{BoundedBytes};
 
     ghost Value = { BoundedBytes };
 
