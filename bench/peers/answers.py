@@ -1,9 +1,10 @@
 """What requests are answered."""
 
+import random
 import socket
 
 from case import NO_ERROR, PROTOCOL_ERROR, answer_of, case, says
-from peers import CALLER, HERE, OTHER, echo, free_port, header, mesh, policy, resources_of, wanted, workload
+from peers import CALLER, HERE, OTHER, echo, free_port, header, mesh, policy, resources_of, until, wanted, workload
 
 
 @case
@@ -28,6 +29,42 @@ def denied(room):
         peer = room.peer(identity=identity)
         wanted(f"the answer to {identity}", answer_of(peer, peer.connect(f"{HERE}:{up.port}")), (401, NO_ERROR))
     wanted("connections at the upstream", len(up.taken), 0)
+
+
+def reason_of(policies, peer):
+    """Why policies, of which each lets in, or refuses, these principals, deny a peer, worked out anew; None where they don't."""
+    fires = [(name, action) for name, action, principals in sorted(policies) if peer in principals]
+    denies = [name for name, action in fires if action == "DENY"]
+    allows = sum(action == "ALLOW" for _, action, _ in policies)
+    if denies:
+        return f"denied_by=a/{denies[0]}"
+    return f"none_allows={allows}" if allows and not fires else None
+
+
+@case
+def reasons(room):
+    """Forty sets of up to five policies that allow or deny one peer, the other, or both: each peer is refused exactly where they deny it,
+    and its line tells the first policy that does, or how many allow others."""
+    chance, names = random.Random(7), "abcde"
+    room.start(resources=mesh())
+    up, wants = room.upstream(echo), []
+    for _ in range(40):
+        policies = [(name, chance.choice(("ALLOW", "DENY")), chance.choice(((CALLER,), (OTHER,), (CALLER, OTHER))))
+                    for name in chance.sample(names, chance.randint(0, 5))]
+        room.update(resources_of({
+            "workloads": [workload(HERE, policies=[f"a/{name}" for name in names])],
+            "policies": [policy(*principals, name=name, action=action) for name, action, principals in policies],
+        }))
+        for identity in (CALLER, OTHER):
+            peer, reason = room.peer(identity=identity), reason_of(policies, identity)
+            if reason:
+                wanted(f"{identity} by {policies}", answer_of(peer, peer.connect(f"{HERE}:{up.port}")), (401, NO_ERROR))
+                wants.append(reason)
+            else:
+                says(peer, peer.tunnel(up.port), b"let in")
+    wanted("some of each", {it.partition("=")[0] for it in wants}, {"denied_by", "none_allows"})
+    until("all lines", lambda: len(room.proxy.reasons()) == len(wants))
+    wanted("the reasons", room.proxy.reasons(), wants)
 
 
 @case
