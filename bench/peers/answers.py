@@ -48,11 +48,11 @@ def reasons(room):
     chance, names = random.Random(7), "abcde"
     room.start(resources=mesh())
     up, wants = room.upstream(echo), []
-    for _ in range(40):
+    for place in range(40):
         policies = [(name, chance.choice(("ALLOW", "DENY")), chance.choice(((CALLER,), (OTHER,), (CALLER, OTHER))))
                     for name in chance.sample(names, chance.randint(0, 5))]
         room.update(resources_of({
-            "workloads": [workload(HERE, policies=[f"a/{name}" for name in names])],
+            "workloads": [workload(HERE, policies=[f"a/{name}" for name in names], service_account=f"s{place}")],
             "policies": [policy(*principals, name=name, action=action) for name, action, principals in policies],
         }))
         for identity in (CALLER, OTHER):
