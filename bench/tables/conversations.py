@@ -45,6 +45,10 @@ def frame(kind, flags, stream, payload=b""):
     return len(payload).to_bytes(3, "big") + bytes([kind, flags]) + stream.to_bytes(4, "big") + payload
 
 
+def settings(digits):
+    return frame(SETTINGS, 0, 0, bytes.fromhex(digits))
+
+
 def four(number):
     return number.to_bytes(4, "big")
 
@@ -83,10 +87,9 @@ class End:
         self.sending, self.granted, self.owed = 65535, 65535, 0
         self.initial, self.frame_size, self.most = 65535, FRAME_SIZE, 4294967295
         if role == "server":
-            self.put(frame(SETTINGS, 0, 0, bytes.fromhex("000300000064000600004000")))
+            self.put(settings("000300000064000600004000"))
         else:
-            opening = PREFACE + frame(SETTINGS, 0, 0, bytes.fromhex("000200000000000600004000"))
-            self.put(opening)
+            self.put(PREFACE + settings("000200000000000600004000"))
 
     def output(self):
         return b"".join(part.octets for part in self.parts)
@@ -427,6 +430,29 @@ def words_of(octets):
     return " ".join(word for word in words + [plain] if word)
 
 
+H2 = "00010000100000020000000%d00040000ffff000500004000000800000000000300000064000600010000"
+NAMES = {  # of octets, in the words of crates/hb_conn_rows/src/octets.rt
+    PREFACE: "PRE",
+    frame(SETTINGS, 1, 0): "ACK",
+    settings("000300000064000600004000"): "OWN_SERVER",
+    settings("000200000000000600004000"): "OWN_CLIENT",
+    settings(H2 % 1): "H2_CLIENT",
+    settings(H2 % 0): "H2_SERVER",
+}
+
+
+def named(octets):
+    """The words of octets, those in front that have names by their names."""
+    for known, name in NAMES.items():
+        if octets.startswith(known):
+            return f"{name} {named(octets[len(known) :])}".rstrip()
+    return words_of(octets)
+
+
+def is_digits(word):
+    return "*" not in word and word not in NAMES.values()
+
+
 def frames_of(octets):
     """The octets, cut behind the preface and each frame."""
     if octets.startswith(PREFACE[:3]):
@@ -488,11 +514,12 @@ class Talk:
 
     def take(self, octets):
         told = self.ours.take(octets)
-        names = {PREFACE: "PRE", frame(SETTINGS, 1, 0): "ACK"}
-        words, line = names.get(octets, words_of(octets)).split(" "), "take"
-        for word in words:
+        words, line = named(octets), "take"
+        if self.lines[-1].startswith("take ") and len(self.lines[-1]) + len(words) < 130:
+            line = self.lines.pop()
+        for word in words.split(" "):
             while len(line) + len(word) > 130:
-                room = max(0, 130 - len(line)) // 2 * 2 if "*" not in word else 0
+                room = max(0, 130 - len(line)) // 2 * 2 if is_digits(word) else 0
                 self.line(f"{line} {word[:room]}")
                 line, word = "take", word[room:]
             line += f" {word}" if word else ""
@@ -545,14 +572,14 @@ class Talk:
         """What waits is looked at, and so much of it written."""
         octets = self.ours.output()
         if octets:
-            words = words_of(octets).split(" ")
+            words = named(octets).split(" ")
             line = "output"
             for word in words:
                 while word:
                     if len(line) > 100:
                         self.line(line)
                         line = "more"
-                    room = len(word) if "*" in word else 110 - len(line) // 2 * 2
+                    room = 110 - len(line) // 2 * 2 if is_digits(word) else len(word)
                     line, word = f"{line} {word[:room]}", word[room:]
             self.line(line)
             self.wrote(len(octets) if n is None else min(n, len(octets)))
@@ -657,14 +684,13 @@ class Talk:
     def done(self):
         self.settle()
         self.compare_heard()
-        line = "# h2 saw:"
+        line, comments = f"// {self.lines[0]}: h2 saw", []
         for seen in self.seen:
-            if len(line) + len(seen) > 134:
-                self.lines.append(line)
-                line = "#"
+            if len(line) + len(seen) > 137:
+                comments.append(line)
+                line = "//"
             line += f" {seen};"
-        self.lines.append(line.rstrip(";"))
-        return self.lines
+        return self.lines, comments + [line.rstrip(";")]
 
 
 # Conversations that are told one by one
@@ -1292,28 +1318,29 @@ HEAD = '''//! Conversations of one end with a peer, python3-h2, as a machine tha
 //! it, the size of the header list and its headers, or `+` where that is large, `chunk`, `ended`, `reset`, `broken`, `gone`
 //! and `fault`. `open`, with the number that is to be answered, `status`, `end`, `reset`, `credit` and `some`, with how many
 //! octets are to be put of those that follow, are acts of this end. `output`, which `more` goes on with, is all that waits
-//! then; `wrote` is how much of it was written. A line with `#` says what h2 saw of that; h2 knows nothing of frames that
-//! were written by hand.
+//! then; `wrote` is how much of it was written. The comments say what h2 saw of that; h2 knows nothing of frames that were
+//! written by hand.
 '''
 PART_SIZE = 9000  # octets of a constant, since the check reads a text deeper the longer it is
 
 
 def parts():
-    """The texts of the constants, each of whole conversations."""
-    text = ""
-    for lines in conversations():
+    """The texts of the constants, each of whole conversations, with the comments that stand in front."""
+    text, comments = "", []
+    for lines, saw in conversations():
         more = "".join(f"{line}\\n\\\n" for line in lines)
         if text and len(text) + len(more) > PART_SIZE:
-            yield text
-            text = ""
+            yield text, comments
+            text, comments = "", []
         text += more
-    yield text
+        comments += saw
+    yield text, comments
 
 
 def main():
     print(HEAD, end="")
-    for number, text in enumerate(parts(), 1):
-        print(f'\npub const PART_{number}: &[u8] = b"\\\n{text}";')
+    for number, (text, comments) in enumerate(parts(), 1):
+        print("", *comments, f'pub const PART_{number}: &[u8] = b"\\\n{text}";', sep="\n")
 
 
 main()

@@ -3,7 +3,7 @@
 ghost use Rattle.std.specs.Prelude.{◌≡◌, ◌≤◌};
 ghost use Rattle.hb_hpack.specs.Table.{total};
 
-use crate::octets::cut;
+use crate::octets::{cut, number_of, octets_of};
 use hb_base::{Bytes, List};
 use hb_conn::Conn;
 use hb_hpack::Header;
@@ -13,10 +13,6 @@ use std::process::Abort;
 
 /// The most pieces and the most happenings of one step.
 pub const MANY: usize = 100_000;
-
-pub fn number_of(rt: &impl Abort, text: &str) -> u32 {
-    text.parse::<u32>().ok().expect(rt, "a number")
-}
 
 /// A client's end, or a server's.
 pub fn end_of(rt: &impl Abort, alloc: Global, role: &str) -> Conn {
@@ -103,6 +99,22 @@ pub fn some(rt: &impl Abort, conn: &mut Conn, row: &str, stream: u32, octets: &[
     assert!(rt;
         n == number_of(rt, want) as usize,
         "{row}: put {n}, not {want}"
+    );
+}
+
+/// Puts octets `a`: the stream, how many they are, and how many are to be put.
+pub fn letters(rt: &impl Abort, alloc: Global, conn: &mut Conn, row: &str, words: &str) {
+    let (stream, rest) = cut(words, " ");
+    let (size, want) = cut(rest, " ");
+    let word = format!(in alloc; "61*{size}").expect(rt, "memory");
+    let octets = octets_of(rt, alloc, word.as_str());
+    some(
+        rt,
+        conn,
+        row,
+        number_of(rt, stream),
+        octets.as_slice(),
+        want,
     );
 }
 

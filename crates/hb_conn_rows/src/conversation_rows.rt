@@ -6,19 +6,32 @@
 //! it, the size of the header list and its headers, or `+` where that is large, `chunk`, `ended`, `reset`, `broken`, `gone`
 //! and `fault`. `open`, with the number that is to be answered, `status`, `end`, `reset`, `credit` and `some`, with how many
 //! octets are to be put of those that follow, are acts of this end. `output`, which `more` goes on with, is all that waits
-//! then; `wrote` is how much of it was written. A line with `#` says what h2 saw of that; h2 knows nothing of frames that
-//! were written by hand.
+//! then; `wrote` is how much of it was written. The comments say what h2 saw of that; h2 knows nothing of frames that were
+//! written by hand.
 
+// server one request: h2 saw RemoteSettingsChanged; SettingsAcknowledged; ResponseReceived 1 :status=200; DataReceived 1 5;
+// DataReceived 1 0; StreamEnded 1
+// server the peer ends with its headers: h2 saw RemoteSettingsChanged; SettingsAcknowledged; ResponseReceived 1 :status=204;
+// StreamEnded 1
+// server the peer ends with its last octets: h2 saw RemoteSettingsChanged; SettingsAcknowledged; ResponseReceived 1 :status=200;
+// DataReceived 1 20; DataReceived 1 0; StreamEnded 1
+// server this end ends first: h2 saw RemoteSettingsChanged; SettingsAcknowledged; ResponseReceived 1 :status=200; DataReceived 1 0;
+// StreamEnded 1
+// server statuses: h2 saw RemoteSettingsChanged; SettingsAcknowledged; ResponseReceived 1 :status=200; StreamEnded 1;
+// ResponseReceived 3 :status=204; StreamEnded 3; ResponseReceived 5 :status=206; StreamEnded 5; ResponseReceived 7 :status=304;
+// StreamEnded 7; ResponseReceived 9 :status=400; StreamEnded 9; ResponseReceived 11 :status=404; StreamEnded 11;
+// ResponseReceived 13 :status=500; StreamEnded 13; ResponseReceived 15 :status=431; StreamEnded 15; ResponseReceived 17 :status=503;
+// StreamEnded 17; ResponseReceived 19 :status=599; StreamEnded 19; InformationalResponseReceived 21 :status=100;
+// ResponseReceived 23 :status=999; StreamEnded 23; ResponseReceived 21 :status=200; StreamEnded 21
+// server padding counts: h2 saw RemoteSettingsChanged; SettingsAcknowledged; WindowUpdated 0 32909; WindowUpdated 1 49038
 pub const PART_1: &[u8] = b"\
 server one request\n\
-output 00000c040000000000000300000064000600004000\n\
+output OWN_SERVER\n\
 wrote 21\n\
-take PRE\n\
-take 00002a04000000000000010000100000020000000100040000ffff000500004000000800000000000300000064000600010000\n\
-take 0000130104000000014287bdab4e9c17b7ff4188081702e15ddb8f03\n\
+take PRE H2_CLIENT 0000130104000000014287bdab4e9c17b7ff4188081702e15ddb8f03\n\
 > opened 1 open 99 :method=CONNECT,:authority=10.0.1.7:80\n\
 take ACK\n\
-output 000000040100000000\n\
+output ACK\n\
 wrote 9\n\
 status 1 200\n\
 output 0000020104000000012088\n\
@@ -34,28 +47,21 @@ take 000000000100000001\n\
 end 1\n\
 output 000000000100000001\n\
 wrote 9\n\
-# h2 saw: RemoteSettingsChanged; SettingsAcknowledged; ResponseReceived 1 :status=200; DataReceived 1 5; DataReceived 1 0;\n\
-# StreamEnded 1\n\
 server the peer ends with its headers\n\
-take PRE\n\
-take 00002a04000000000000010000100000020000000100040000ffff000500004000000800000000000300000064000600010000\n\
-take 0000130105000000014287bdab4e9c17b7ff4188081702e15ddb8f03\n\
+take PRE H2_CLIENT 0000130105000000014287bdab4e9c17b7ff4188081702e15ddb8f03\n\
 > opened 1 end 99 :method=CONNECT,:authority=10.0.1.7:80\n\
 status 1 204 end\n\
-output 00000c0400000000000003000000640006000040000000000401000000000000020105000000012089\n\
+output OWN_SERVER ACK 0000020105000000012089\n\
 wrote 41\n\
 take ACK\n\
-# h2 saw: RemoteSettingsChanged; SettingsAcknowledged; ResponseReceived 1 :status=204; StreamEnded 1\n\
 server the peer ends with its last octets\n\
-take PRE\n\
-take 00002a04000000000000010000100000020000000100040000ffff000500004000000800000000000300000064000600010000\n\
-take 0000130104000000014287bdab4e9c17b7ff4188081702e15ddb8f03\n\
+take PRE H2_CLIENT 0000130104000000014287bdab4e9c17b7ff4188081702e15ddb8f03\n\
 > opened 1 open 99 :method=CONNECT,:authority=10.0.1.7:80\n\
 take 00012c000100000001 61*200 41*100\n\
 > chunk 1 61*200 41*100\n\
 > ended 1\n\
 status 1 200\n\
-output 00000c0400000000000003000000640006000040000000000401000000000000020104000000012088\n\
+output OWN_SERVER ACK 0000020104000000012088\n\
 wrote 41\n\
 some 1 20 62*20\n\
 output 000014000000000001 62*20\n\
@@ -64,29 +70,21 @@ end 1\n\
 output 000000000100000001\n\
 wrote 9\n\
 take ACK\n\
-# h2 saw: RemoteSettingsChanged; SettingsAcknowledged; ResponseReceived 1 :status=200; DataReceived 1 20; DataReceived 1 0;\n\
-# StreamEnded 1\n\
 server this end ends first\n\
-take PRE\n\
-take 00002a04000000000000010000100000020000000100040000ffff000500004000000800000000000300000064000600010000\n\
-take 0000130104000000014287bdab4e9c17b7ff4188081702e15ddb8f03\n\
+take PRE H2_CLIENT 0000130104000000014287bdab4e9c17b7ff4188081702e15ddb8f03\n\
 > opened 1 open 99 :method=CONNECT,:authority=10.0.1.7:80\n\
 status 1 200\n\
 end 1\n\
-output 00000c0400000000000003000000640006000040000000000401000000000000020104000000012088000000000100000001\n\
+output OWN_SERVER ACK 0000020104000000012088000000000100000001\n\
 wrote 50\n\
-take ACK\n\
-take 000028000000000001 61*27 41*13\n\
+take ACK 000028000000000001 61*27 41*13\n\
 > chunk 1 61*27 41*13\n\
 credit 1 40\n\
 take 000028000100000001 62*27 42*13\n\
 > chunk 1 62*27 42*13\n\
 > ended 1\n\
-# h2 saw: RemoteSettingsChanged; SettingsAcknowledged; ResponseReceived 1 :status=200; DataReceived 1 0; StreamEnded 1\n\
 server statuses\n\
-take PRE\n\
-take 00002a04000000000000010000100000020000000100040000ffff000500004000000800000000000300000064000600010000\n\
-take 0000130104000000014287bdab4e9c17b7ff4188081702e15ddb8f03\n\
+take PRE H2_CLIENT 0000130104000000014287bdab4e9c17b7ff4188081702e15ddb8f03\n\
 > opened 1 open 99 :method=CONNECT,:authority=10.0.1.7:80\n\
 status 1 200 end\n\
 take 00000b010400000003bf4188081702ecaeedc781\n\
@@ -122,25 +120,16 @@ status 21 100\n\
 take 00000c010400000017c94189081702e265776e3c0f\n\
 > opened 23 open 100 :method=CONNECT,:authority=10.0.23.7:80\n\
 status 23 999 end\n\
-output 00000c04000000000000030000006400060000400000000004010000000000000201050000000120880000010105000000038900\n\
-more 00010105000000058a0000010105000000078b0000010105000000098c00000101050000000b8d00000101050000000d8e00000501\n\
-more 050000000f080334333100000501050000001108033530330000050105000000130803353939000005010400000015080331303000\n\
-more 00050105000000170803393939\n\
+output OWN_SERVER ACK 0000020105000000012088000001010500000003890000010105000000058a0000010105000000078b00000101\n\
+more 05000000098c00000101050000000b8d00000101050000000d8e00000501050000000f080334333100000501050000001108033530\n\
+more 33000005010500000013080335393900000501040000001508033130300000050105000000170803393939\n\
 wrote 171\n\
 take ACK\n\
 status 21 200 end\n\
 output 00000101050000001588\n\
 wrote 10\n\
-# h2 saw: RemoteSettingsChanged; SettingsAcknowledged; ResponseReceived 1 :status=200; StreamEnded 1; ResponseReceived 3 :status=204;\n\
-# StreamEnded 3; ResponseReceived 5 :status=206; StreamEnded 5; ResponseReceived 7 :status=304; StreamEnded 7;\n\
-# ResponseReceived 9 :status=400; StreamEnded 9; ResponseReceived 11 :status=404; StreamEnded 11; ResponseReceived 13 :status=500;\n\
-# StreamEnded 13; ResponseReceived 15 :status=431; StreamEnded 15; ResponseReceived 17 :status=503; StreamEnded 17;\n\
-# ResponseReceived 19 :status=599; StreamEnded 19; InformationalResponseReceived 21 :status=100; ResponseReceived 23 :status=999;\n\
-# StreamEnded 23; ResponseReceived 21 :status=200; StreamEnded 21\n\
 server padding counts\n\
-take PRE\n\
-take 00002a04000000000000010000100000020000000100040000ffff000500004000000800000000000300000064000600010000\n\
-take 0000130104000000014287bdab4e9c17b7ff4188081702e15ddb8f03\n\
+take PRE H2_CLIENT 0000130104000000014287bdab4e9c17b7ff4188081702e15ddb8f03\n\
 > opened 1 open 99 :method=CONNECT,:authority=10.0.1.7:80\n\
 take 00000100080000000100\n\
 > chunk 1\n\
@@ -156,7 +145,7 @@ take 004000000800000001ff 66*10752 46*5376 00*255\n\
 > chunk 1 66*10752 46*5376\n\
 take 00006600080000000101 67*67 47*33 00\n\
 > chunk 1 67*67 47*33\n\
-output 00000c0400000000000003000000640006000040000000000401000000000000040800000000000000808d\n\
+output OWN_SERVER ACK 0000040800000000000000808d\n\
 wrote 43\n\
 take ACK\n\
 credit 1 48000\n\
@@ -165,16 +154,20 @@ wrote 13\n\
 take 0000110009000000010968686868686868 00*9\n\
 > chunk 1 68686868686868\n\
 > ended 1\n\
-# h2 saw: RemoteSettingsChanged; SettingsAcknowledged; WindowUpdated 0 32909; WindowUpdated 1 49038\n\
 ";
 
+// server much padding is granted again by itself: h2 saw RemoteSettingsChanged; SettingsAcknowledged; WindowUpdated 0 32768;
+// WindowUpdated 1 32768
+// server the peer fills its windows: h2 saw RemoteSettingsChanged; SettingsAcknowledged; WindowUpdated 0 32768; WindowUpdated 0 49150;
+// WindowUpdated 1 32768; WindowUpdated 0 32768
+// server this end fills its windows: h2 saw RemoteSettingsChanged; SettingsAcknowledged; ResponseReceived 1 :status=200;
+// ResponseReceived 3 :status=200; DataReceived 1 16384; DataReceived 1 16384; DataReceived 1 16384; DataReceived 1 16383;
+// DataReceived 3 90; DataReceived 1 10; DataReceived 1 0; StreamEnded 1; DataReceived 3 0; StreamEnded 3
 pub const PART_2: &[u8] = b"\
 server much padding is granted again by itself\n\
-output 00000c040000000000000300000064000600004000\n\
+output OWN_SERVER\n\
 wrote 21\n\
-take PRE\n\
-take 00002a04000000000000010000100000020000000100040000ffff000500004000000800000000000300000064000600010000\n\
-take 0000130104000000014287bdab4e9c17b7ff4188081702e15ddb8f03\n\
+take PRE H2_CLIENT 0000130104000000014287bdab4e9c17b7ff4188081702e15ddb8f03\n\
 > opened 1 open 99 :method=CONNECT,:authority=10.0.1.7:80\n\
 take 000100000800000001ff 00*255\n\
 > chunk 1\n\
@@ -437,15 +430,12 @@ take 000100000800000001ff 00*255\n\
 take 000100000800000001ff 00*255\n\
 > chunk 1\n\
 take ACK\n\
-output 0000000401000000000000040800000000000000800000000408000000000100008000\n\
+output ACK 0000040800000000000000800000000408000000000100008000\n\
 wrote 35\n\
-# h2 saw: RemoteSettingsChanged; SettingsAcknowledged; WindowUpdated 0 32768; WindowUpdated 1 32768\n\
 server the peer fills its windows\n\
-output 00000c040000000000000300000064000600004000\n\
+output OWN_SERVER\n\
 wrote 21\n\
-take PRE\n\
-take 00002a04000000000000010000100000020000000100040000ffff000500004000000800000000000300000064000600010000\n\
-take 0000130104000000014287bdab4e9c17b7ff4188081702e15ddb8f03\n\
+take PRE H2_CLIENT 0000130104000000014287bdab4e9c17b7ff4188081702e15ddb8f03\n\
 > opened 1 open 99 :method=CONNECT,:authority=10.0.1.7:80\n\
 take 00000b010400000003bf4188081702ecaeedc781\n\
 > opened 3 open 99 :method=CONNECT,:authority=10.0.3.7:80\n\
@@ -458,7 +448,7 @@ take 004000000000000001 63*10923 43*5461\n\
 take 003fff000000000003 64*10922 44*5461\n\
 > chunk 3 64*10922 44*5461\n\
 take ACK\n\
-output 00000004010000000000000408000000000000008000\n\
+output ACK 00000408000000000000008000\n\
 wrote 22\n\
 take 003fff000000000001 65*10922 45*5461\n\
 > chunk 1 65*10922 45*5461\n\
@@ -477,21 +467,14 @@ take 004000000100000001 67*10923 47*5461\n\
 credit 1 65535\n\
 output 00000408000000000000008000\n\
 wrote 13\n\
-# h2 saw: RemoteSettingsChanged; SettingsAcknowledged; WindowUpdated 0 32768; WindowUpdated 0 49150; WindowUpdated 1 32768;\n\
-# WindowUpdated 0 32768\n\
-";
-
-pub const PART_3: &[u8] = b"\
 server this end fills its windows\n\
-take PRE\n\
-take 00002a04000000000000010000100000020000000100040000ffff000500004000000800000000000300000064000600010000\n\
-take 0000130104000000014287bdab4e9c17b7ff4188081702e15ddb8f03\n\
+take PRE H2_CLIENT 0000130104000000014287bdab4e9c17b7ff4188081702e15ddb8f03\n\
 > opened 1 open 99 :method=CONNECT,:authority=10.0.1.7:80\n\
 status 1 200\n\
 take 00000b010400000003bf4188081702ecaeedc781\n\
 > opened 3 open 99 :method=CONNECT,:authority=10.0.3.7:80\n\
 status 3 200\n\
-output 00000c040000000000000300000064000600004000000000040100000000000002010400000001208800000101040000000388\n\
+output OWN_SERVER ACK 000002010400000001208800000101040000000388\n\
 wrote 51\n\
 some 1 16384 61*13334 41*6666\n\
 output 004000000000000001 61*13334 41*3050\n\
@@ -507,8 +490,7 @@ output 003fff000000000001 64*13334 44*3049\n\
 wrote 16392\n\
 some 1 0 65*13334 45*6666\n\
 some 3 0 66*9\n\
-take ACK\n\
-take 00000408000000000000000064\n\
+take ACK 00000408000000000000000064\n\
 some 3 90 67*60 47*30\n\
 output 00005a000000000003 67*60 47*30\n\
 wrote 99\n\
@@ -521,23 +503,37 @@ end 1\n\
 end 3\n\
 output 000000000100000001000000000100000003\n\
 wrote 18\n\
-# h2 saw: RemoteSettingsChanged; SettingsAcknowledged; ResponseReceived 1 :status=200; ResponseReceived 3 :status=200;\n\
-# DataReceived 1 16384; DataReceived 1 16384; DataReceived 1 16384; DataReceived 1 16383; DataReceived 3 90; DataReceived 1 10;\n\
-# DataReceived 1 0; StreamEnded 1; DataReceived 3 0; StreamEnded 3\n\
+";
+
+// server windows of streams below zero: h2 saw RemoteSettingsChanged; SettingsAcknowledged; ResponseReceived 1 :status=200;
+// DataReceived 1 1000; SettingsAcknowledged; ResponseReceived 3 :status=200; DataReceived 3 400; DataReceived 1 3; SettingsAcknowledged;
+// DataReceived 1 600; DataReceived 1 0; StreamEnded 1
+// server a window of none: h2 saw RemoteSettingsChanged; SettingsAcknowledged; SettingsAcknowledged; ResponseReceived 1 :status=200;
+// DataReceived 1 0; StreamEnded 1
+// server the window shrinks while DATA waits: h2 saw RemoteSettingsChanged; SettingsAcknowledged; ResponseReceived 1 :status=200;
+// DataReceived 1 900; SettingsAcknowledged; SettingsAcknowledged; DataReceived 1 1100
+// server the peer resets while DATA waits: h2 saw RemoteSettingsChanged; SettingsAcknowledged; ResponseReceived 1 :status=200;
+// ResponseReceived 3 :status=200; DataReceived 3 16384; DataReceived 3 16384; DataReceived 3 16384
+// server this end resets while DATA waits: h2 saw RemoteSettingsChanged; SettingsAcknowledged; ResponseReceived 1 :status=200;
+// ResponseReceived 3 :status=200; StreamReset 1 8; DataReceived 3 5000; StreamReset 3 5
+// server DATA behind this ends reset: h2 saw RemoteSettingsChanged; SettingsAcknowledged; StreamReset 1 7; WindowUpdated 0 32768
+// server trailers of a request: h2 saw RemoteSettingsChanged; SettingsAcknowledged; StreamReset 1 1
+// server PING both ways: h2 saw RemoteSettingsChanged; SettingsAcknowledged; PingAckReceived; PingAckReceived; PingAckReceived
+// server the peer goes away: h2 saw nothing more, since it is gone
+// server numbers are skipped: h2 saw RemoteSettingsChanged; SettingsAcknowledged; ResponseReceived 101 :status=500; StreamEnded 101;
+// ResponseReceived 9 :status=400; StreamEnded 9; ResponseReceived 5 :status=404; StreamEnded 5
+pub const PART_3: &[u8] = b"\
 server windows of streams below zero\n\
-take PRE\n\
-take 00002a04000000000000010000100000020000000100040000ffff000500004000000800000000000300000064000600010000\n\
-take 0000130104000000014287bdab4e9c17b7ff4188081702e15ddb8f03\n\
+take PRE H2_CLIENT 0000130104000000014287bdab4e9c17b7ff4188081702e15ddb8f03\n\
 > opened 1 open 99 :method=CONNECT,:authority=10.0.1.7:80\n\
 status 1 200\n\
-output 00000c0400000000000003000000640006000040000000000401000000000000020104000000012088\n\
+output OWN_SERVER ACK 0000020104000000012088\n\
 wrote 41\n\
 some 1 1000 61*667 41*333\n\
 output 0003e8000000000001 61*667 41*333\n\
 wrote 1009\n\
-take ACK\n\
-take 000006040000000000000400000190\n\
-output 000000040100000000\n\
+take ACK 000006040000000000000400000190\n\
+output ACK\n\
 wrote 9\n\
 some 1 0 62*10\n\
 take 00000b010400000003bf4188081702ecaeedc781\n\
@@ -555,7 +551,7 @@ some 1 3 65*10\n\
 output 000003000000000001656565\n\
 wrote 12\n\
 take 0000060400000000000004000003e8\n\
-output 000000040100000000\n\
+output ACK\n\
 wrote 9\n\
 some 1 600 66*467 46*233\n\
 output 000258000000000001 66*467 46*133\n\
@@ -563,17 +559,11 @@ wrote 609\n\
 end 1\n\
 output 000000000100000001\n\
 wrote 9\n\
-# h2 saw: RemoteSettingsChanged; SettingsAcknowledged; ResponseReceived 1 :status=200; DataReceived 1 1000; SettingsAcknowledged;\n\
-# ResponseReceived 3 :status=200; DataReceived 3 400; DataReceived 1 3; SettingsAcknowledged; DataReceived 1 600; DataReceived 1 0;\n\
-# StreamEnded 1\n\
 server a window of none\n\
-output 00000c040000000000000300000064000600004000\n\
+output OWN_SERVER\n\
 wrote 21\n\
-take PRE\n\
-take 00002a04000000000000010000100000020000000100040000ffff000500004000000800000000000300000064000600010000\n\
-take 000006040000000000000400000000\n\
-take ACK\n\
-output 000000040100000000000000040100000000\n\
+take PRE H2_CLIENT 000006040000000000000400000000 ACK\n\
+output ACK ACK\n\
 wrote 18\n\
 take 0000130104000000014287bdab4e9c17b7ff4188081702e15ddb8f03\n\
 > opened 1 open 99 :method=CONNECT,:authority=10.0.1.7:80\n\
@@ -584,46 +574,36 @@ some 1 0 6161616161\n\
 end 1\n\
 output 000000000100000001\n\
 wrote 9\n\
-# h2 saw: RemoteSettingsChanged; SettingsAcknowledged; SettingsAcknowledged; ResponseReceived 1 :status=200; DataReceived 1 0;\n\
-# StreamEnded 1\n\
 server the window shrinks while DATA waits\n\
-take PRE\n\
-take 00002a04000000000000010000100000020000000100040000ffff000500004000000800000000000300000064000600010000\n\
-take 0000130104000000014287bdab4e9c17b7ff4188081702e15ddb8f03\n\
+take PRE H2_CLIENT 0000130104000000014287bdab4e9c17b7ff4188081702e15ddb8f03\n\
 > opened 1 open 99 :method=CONNECT,:authority=10.0.1.7:80\n\
 status 1 200\n\
-output 00000c0400000000000003000000640006000040000000000401000000000000020104000000012088\n\
+output OWN_SERVER ACK 0000020104000000012088\n\
 wrote 41\n\
 some 1 900 61*600 41*300\n\
-take ACK\n\
-take 000006040000000000000400000064\n\
+take ACK 000006040000000000000400000064\n\
 some 1 0 6262626262\n\
 output 000384000000000001 61*600 41*300 000000040100000000\n\
 wrote 500\n\
 output 61*109 41*300 000000040100000000\n\
 wrote 418\n\
 take 0000060400000000000004000007d0\n\
-output 000000040100000000\n\
+output ACK\n\
 wrote 9\n\
 some 1 1100 63*3334 43*1666\n\
 output 00044c000000000001 63*1100\n\
 wrote 1109\n\
-# h2 saw: RemoteSettingsChanged; SettingsAcknowledged; ResponseReceived 1 :status=200; DataReceived 1 900; SettingsAcknowledged;\n\
-# SettingsAcknowledged; DataReceived 1 1100\n\
 server the peer resets while DATA waits\n\
-take PRE\n\
-take 00002a04000000000000010000100000020000000100040000ffff000500004000000800000000000300000064000600010000\n\
-take 0000130104000000014287bdab4e9c17b7ff4188081702e15ddb8f03\n\
+take PRE H2_CLIENT 0000130104000000014287bdab4e9c17b7ff4188081702e15ddb8f03\n\
 > opened 1 open 99 :method=CONNECT,:authority=10.0.1.7:80\n\
 status 1 200\n\
 take 00000b010400000003bf4188081702ecaeedc781\n\
 > opened 3 open 99 :method=CONNECT,:authority=10.0.3.7:80\n\
 status 3 200\n\
-output 00000c040000000000000300000064000600004000000000040100000000000002010400000001208800000101040000000388\n\
+output OWN_SERVER ACK 000002010400000001208800000101040000000388\n\
 wrote 51\n\
 some 1 16384 61*10923 41*5461\n\
-take ACK\n\
-take 00000403000000000100000008\n\
+take ACK 00000403000000000100000008\n\
 > reset 1 8\n\
 some 3 16384 62*10923 42*5461\n\
 output 004000000000000003 62*10923 42*5461\n\
@@ -641,20 +621,15 @@ take 00000403000000000300000002\n\
 > reset 3 2\n\
 output 65*10912 45*5460\n\
 wrote 16372\n\
-take 00000408000000000000003fff\n\
-take 00000403000000000300000005\n\
-# h2 saw: RemoteSettingsChanged; SettingsAcknowledged; ResponseReceived 1 :status=200; ResponseReceived 3 :status=200;\n\
-# DataReceived 3 16384; DataReceived 3 16384; DataReceived 3 16384\n\
+take 00000408000000000000003fff 00000403000000000300000005\n\
 server this end resets while DATA waits\n\
-take PRE\n\
-take 00002a04000000000000010000100000020000000100040000ffff000500004000000800000000000300000064000600010000\n\
-take 0000130104000000014287bdab4e9c17b7ff4188081702e15ddb8f03\n\
+take PRE H2_CLIENT 0000130104000000014287bdab4e9c17b7ff4188081702e15ddb8f03\n\
 > opened 1 open 99 :method=CONNECT,:authority=10.0.1.7:80\n\
 status 1 200\n\
 take 00000b010400000003bf4188081702ecaeedc781\n\
 > opened 3 open 99 :method=CONNECT,:authority=10.0.3.7:80\n\
 status 3 200\n\
-output 00000c040000000000000300000064000600004000000000040100000000000002010400000001208800000101040000000388\n\
+output OWN_SERVER ACK 000002010400000001208800000101040000000388\n\
 wrote 51\n\
 some 1 5000 61*3334 41*1666\n\
 reset 1 8\n\
@@ -667,71 +642,47 @@ wrote 1\n\
 reset 3 5\n\
 output 1388000000000003 62*3334 42*1666 00000403000000000300000005\n\
 wrote 5021\n\
-# h2 saw: RemoteSettingsChanged; SettingsAcknowledged; ResponseReceived 1 :status=200; ResponseReceived 3 :status=200; StreamReset 1 8;\n\
-# DataReceived 3 5000; StreamReset 3 5\n\
 server DATA behind this ends reset\n\
-take PRE\n\
-take 00002a04000000000000010000100000020000000100040000ffff000500004000000800000000000300000064000600010000\n\
-take 0000130104000000014287bdab4e9c17b7ff4188081702e15ddb8f03\n\
+take PRE H2_CLIENT 0000130104000000014287bdab4e9c17b7ff4188081702e15ddb8f03\n\
 > opened 1 open 99 :method=CONNECT,:authority=10.0.1.7:80\n\
 reset 1 7\n\
-take 004000000000000001 61*10923 41*5461\n\
-take 004000000000000001 62*10923 42*5461\n\
-take 004000000000000001 63*10923 43*5461\n\
-output 00000c04000000000000030000006400060000400000000004010000000000000403000000000100000007000004080000000000\n\
-more 00008000\n\
+take 004000000000000001 61*10923 41*5461 004000000000000001 62*10923 42*5461 004000000000000001 63*10923 43*5461\n\
+output OWN_SERVER ACK 0000040300000000010000000700000408000000000000008000\n\
 wrote 56\n\
 take ACK\n\
-# h2 saw: RemoteSettingsChanged; SettingsAcknowledged; StreamReset 1 7; WindowUpdated 0 32768\n\
 server trailers of a request\n\
-take PRE\n\
-take 00002a04000000000000010000100000020000000100040000ffff000500004000000800000000000300000064000600010000\n\
-take 0000130104000000014287bdab4e9c17b7ff4188081702e15ddb8f03\n\
+take PRE H2_CLIENT 0000130104000000014287bdab4e9c17b7ff4188081702e15ddb8f03\n\
 > opened 1 open 99 :method=CONNECT,:authority=10.0.1.7:80\n\
 take 000006000000000001616161616161\n\
 > chunk 1 616161616161\n\
 take 0000080105000000014084f2b22da78177\n\
 > broken 1 1\n\
-output 00000c04000000000000030000006400060000400000000004010000000000000403000000000100000001\n\
+output OWN_SERVER ACK 00000403000000000100000001\n\
 wrote 43\n\
 take ACK\n\
-# h2 saw: RemoteSettingsChanged; SettingsAcknowledged; StreamReset 1 1\n\
-";
-
-pub const PART_4: &[u8] = b"\
 server PING both ways\n\
-take PRE\n\
-take 00002a04000000000000010000100000020000000100040000ffff000500004000000800000000000300000064000600010000\n\
-take 0000080600000000003030303030303030\n\
-take 000008060000000000ffffffffffffffff\n\
-take 0000080600000000000001020304050607\n\
+take PRE H2_CLIENT 0000080600000000003030303030303030 000008060000000000ffffffffffffffff 0000080600000000000001020304050607\n\
 take 0000080601000000007374726179656421\n\
-output 00000c04000000000000030000006400060000400000000004010000000000000806010000000030303030303030300000080601\n\
-more 00000000ffffffffffffffff0000080601000000000001020304050607\n\
+output OWN_SERVER ACK 0000080601000000003030303030303030000008060100000000ffffffffffffffff0000080601000000000001\n\
+more 020304050607\n\
 wrote 81\n\
 take ACK\n\
-# h2 saw: RemoteSettingsChanged; SettingsAcknowledged; PingAckReceived; PingAckReceived; PingAckReceived\n\
 server the peer goes away\n\
-take PRE\n\
-take 00002a04000000000000010000100000020000000100040000ffff000500004000000800000000000300000064000600010000\n\
-take 0000130104000000014287bdab4e9c17b7ff4188081702e15ddb8f03\n\
+take PRE H2_CLIENT 0000130104000000014287bdab4e9c17b7ff4188081702e15ddb8f03\n\
 > opened 1 open 99 :method=CONNECT,:authority=10.0.1.7:80\n\
 take 00000b07 00*13 627965\n\
 > gone 0\n\
 status 1 200\n\
-output 00000c0400000000000003000000640006000040000000000401000000000000020104000000012088\n\
+output OWN_SERVER ACK 0000020104000000012088\n\
 wrote 41\n\
-# h2 saw: nothing more, since it is gone\n\
 server numbers are skipped\n\
-take PRE\n\
-take 00002a04000000000000010000100000020000000100040000ffff000500004000000800000000000300000064000600010000\n\
-take 0000130104000000054287bdab4e9c17b7ff4188081702edaeedc781\n\
+take PRE H2_CLIENT 0000130104000000054287bdab4e9c17b7ff4188081702edaeedc781\n\
 > opened 5 open 99 :method=CONNECT,:authority=10.0.5.7:80\n\
 take 00000b010500000009bf4188081702efaeedc781\n\
 > opened 9 end 99 :method=CONNECT,:authority=10.0.9.7:80\n\
 take 00000c010400000065c04189081702e1005776e3c0\n\
 > opened 101 open 101 :method=CONNECT,:authority=10.0.101.7:80\n\
-output 00000c040000000000000300000064000600004000000000040100000000\n\
+output OWN_SERVER ACK\n\
 wrote 30\n\
 take ACK\n\
 status 101 500 end\n\
@@ -739,15 +690,12 @@ status 9 400 end\n\
 status 5 404 end\n\
 output 000002010500000065208e0000010105000000098c0000010105000000058d\n\
 wrote 31\n\
-# h2 saw: RemoteSettingsChanged; SettingsAcknowledged; ResponseReceived 101 :status=500; StreamEnded 101;\n\
-# ResponseReceived 9 :status=400; StreamEnded 9; ResponseReceived 5 :status=404; StreamEnded 5\n\
 ";
 
-pub const PART_5: &[u8] = b"\
+// server a hundred streams: h2 saw RemoteSettingsChanged; SettingsAcknowledged; StreamReset 3 8
+pub const PART_4: &[u8] = b"\
 server a hundred streams\n\
-take PRE\n\
-take 00002a04000000000000010000100000020000000100040000ffff000500004000000800000000000300000064000600010000\n\
-take 0000130104000000014287bdab4e9c17b7ff4188081702e15ddb8f03\n\
+take PRE H2_CLIENT 0000130104000000014287bdab4e9c17b7ff4188081702e15ddb8f03\n\
 > opened 1 open 99 :method=CONNECT,:authority=10.0.1.7:80\n\
 take 00000b010400000003bf4188081702ecaeedc781\n\
 > opened 3 open 99 :method=CONNECT,:authority=10.0.3.7:80\n\
@@ -953,38 +901,47 @@ take 0000040000000000c96c617465\n\
 reset 3 8\n\
 take 0000010104000000cb82\n\
 > opened 203 open 42 :method=GET\n\
-output 00000c0400000000000003000000640006000040000000000401000000000000040300000000c900000007000004030000000003\n\
-more 00000008\n\
+output OWN_SERVER ACK 0000040300000000c90000000700000403000000000300000008\n\
 wrote 56\n\
 take ACK\n\
-# h2 saw: RemoteSettingsChanged; SettingsAcknowledged; StreamReset 3 8\n\
 ";
 
-pub const PART_6: &[u8] = b"\
+// server priorities and large header lists: h2 saw RemoteSettingsChanged; SettingsAcknowledged
+// server a header block in pieces: h2 saw RemoteSettingsChanged; SettingsAcknowledged; ProtocolError Invalid stream ID for peer.
+// server stream errors: h2 saw RemoteSettingsChanged; SettingsAcknowledged; StreamReset 1 5; StreamReset 3 1; StreamReset 5 3;
+// StreamReset 7 1; ResponseReceived 9 :status=200
+// server more DATA than a window grants: h2 saw RemoteSettingsChanged; SettingsAcknowledged; WindowUpdated 0 32768; WindowUpdated 0 32768;
+// StreamReset 1 3
+// server a window of the connection above the largest: h2 saw RemoteSettingsChanged; SettingsAcknowledged; ConnectionTerminated 3 last 3
+// server a first size of windows above the largest: h2 saw RemoteSettingsChanged; SettingsAcknowledged; ConnectionTerminated 3 last 3
+// server a stream's window above the largest: h2 saw RemoteSettingsChanged; SettingsAcknowledged; ConnectionTerminated 3 last 3
+// server DATA on an idle stream: h2 saw RemoteSettingsChanged; SettingsAcknowledged; ConnectionTerminated 1 last 3
+// server DATA on a closed stream: h2 saw RemoteSettingsChanged; SettingsAcknowledged; ConnectionTerminated 5 last 3
+// server the end of DATA twice: h2 saw RemoteSettingsChanged; SettingsAcknowledged; StreamReset 1 5
+// server unknown frames: h2 saw RemoteSettingsChanged; SettingsAcknowledged; SettingsAcknowledged; PingAckReceived
+// server padding without its octet: h2 saw RemoteSettingsChanged; SettingsAcknowledged; ConnectionTerminated 6 last 3
+// server padding as long as the payload, and longer: h2 saw RemoteSettingsChanged; SettingsAcknowledged; ConnectionTerminated 1 last 3
+// server a short PING: h2 saw RemoteSettingsChanged; SettingsAcknowledged; ConnectionTerminated 6 last 3
+// server a long RST_STREAM: h2 saw RemoteSettingsChanged; SettingsAcknowledged; ConnectionTerminated 6 last 3
+// server a frame that is too long: h2 saw RemoteSettingsChanged; SettingsAcknowledged; ConnectionTerminated 6 last 3
+// server CONTINUATION of nothing: h2 saw RemoteSettingsChanged; SettingsAcknowledged; ConnectionTerminated 1 last 3
+pub const PART_5: &[u8] = b"\
 server priorities and large header lists\n\
-take PRE\n\
-take 00002a04000000000000010000100000020000000100040000ffff000500004000000800000000000300000064000600010000\n\
-take 0000050200000000070000000308\n\
-take 00001101240000000100000000024287bdab4e9c17b7ff41811f\n\
+take PRE H2_CLIENT 0000050200000000070000000308 00001101240000000100000000024287bdab4e9c17b7ff41811f\n\
 > opened 1 open 89 :method=CONNECT,:authority=a\n\
 take 000faa010500000003bf41818f4081f3ffa11e fc*4000\n\
 > opened 3 end 4122 +\n\
 take 003aaa0104000000054287bdab4e9c17b7ff4181274081f3ff9974 fd*15000\n\
 > opened 5 open 15122 +\n\
-output 00000c040000000000000300000064000600004000000000040100000000\n\
+output OWN_SERVER ACK\n\
 wrote 30\n\
 take ACK\n\
-# h2 saw: RemoteSettingsChanged; SettingsAcknowledged\n\
 server a header block in pieces\n\
-take PRE\n\
-take 00002a04000000000000010000100000020000000100040000ffff000500004000000800000000000300000064000600010000\n\
-take 00000101010000000182\n\
-take 00000109000000000187\n\
-take 00000109040000000184\n\
+take PRE H2_CLIENT 00000101010000000182 00000109000000000187 00000109040000000184\n\
 > opened 1 end 124 :method=GET,:scheme=https,:path=/\n\
 take 00000a012c0000000302000000000083860000\n\
 > opened 3 open 86 :method=POST,:scheme=http\n\
-output 00000c040000000000000300000064000600004000000000040100000000\n\
+output OWN_SERVER ACK\n\
 wrote 30\n\
 take ACK\n\
 status 1 200 end\n\
@@ -992,11 +949,8 @@ output 0000020105000000012088\n\
 wrote 11\n\
 take 00000807 00*12 01\n\
 > gone 0\n\
-# h2 saw: RemoteSettingsChanged; SettingsAcknowledged; ProtocolError Invalid stream ID for peer.\n\
 server stream errors\n\
-take PRE\n\
-take 00002a04000000000000010000100000020000000100040000ffff000500004000000800000000000300000064000600010000\n\
-take 0000130104000000014287bdab4e9c17b7ff4188081702e15ddb8f03\n\
+take PRE H2_CLIENT 0000130104000000014287bdab4e9c17b7ff4188081702e15ddb8f03\n\
 > opened 1 open 99 :method=CONNECT,:authority=10.0.1.7:80\n\
 take 00000b010400000003bf4188081702ecaeedc781\n\
 > opened 3 open 99 :method=CONNECT,:authority=10.0.3.7:80\n\
@@ -1017,24 +971,18 @@ take 0000040800000000057fffffff\n\
 > broken 5 3\n\
 take 00000101040000000782\n\
 > broken 7 1\n\
-take 00000700000000000569676e6f726564\n\
-take 00000408000000000500000000\n\
-take 00000403000000000500000008\n\
-output 00000c04000000000000030000006400060000400000000004010000000000000403000000000100000005000004030000000003\n\
-more 000000010000040300000000050000000300000403000000000700000001\n\
+take 00000700000000000569676e6f726564 00000408000000000500000000 00000403000000000500000008\n\
+output OWN_SERVER ACK 000004030000000001000000050000040300000000030000000100000403000000000500000003000004030000\n\
+more 00000700000001\n\
 wrote 82\n\
 take ACK\n\
 status 9 200\n\
 output 0000020104000000092088\n\
 wrote 11\n\
-# h2 saw: RemoteSettingsChanged; SettingsAcknowledged; StreamReset 1 5; StreamReset 3 1; StreamReset 5 3; StreamReset 7 1;\n\
-# ResponseReceived 9 :status=200\n\
 server more DATA than a window grants\n\
-output 00000c040000000000000300000064000600004000\n\
+output OWN_SERVER\n\
 wrote 21\n\
-take PRE\n\
-take 00002a04000000000000010000100000020000000100040000ffff000500004000000800000000000300000064000600010000\n\
-take 0000130104000000014287bdab4e9c17b7ff4188081702e15ddb8f03\n\
+take PRE H2_CLIENT 0000130104000000014287bdab4e9c17b7ff4188081702e15ddb8f03\n\
 > opened 1 open 99 :method=CONNECT,:authority=10.0.1.7:80\n\
 take 004000000000000001 61*10923 41*5461\n\
 > chunk 1 61*10923 41*5461\n\
@@ -1045,93 +993,77 @@ take 004000000000000001 63*10923 43*5461\n\
 take 003fff000000000001 64*10922 44*5461\n\
 > chunk 1 64*10922 44*5461\n\
 take ACK\n\
-output 00000004010000000000000408000000000000008000\n\
+output ACK 00000408000000000000008000\n\
 wrote 22\n\
 take 00000100000000000121\n\
 > broken 1 3\n\
 output 0000040800000000000000800000000403000000000100000003\n\
 wrote 26\n\
-# h2 saw: RemoteSettingsChanged; SettingsAcknowledged; WindowUpdated 0 32768; WindowUpdated 0 32768; StreamReset 1 3\n\
 server a window of the connection above the largest\n\
-output 00000c040000000000000300000064000600004000\n\
+output OWN_SERVER\n\
 wrote 21\n\
-take PRE\n\
-take 00002a04000000000000010000100000020000000100040000ffff000500004000000800000000000300000064000600010000\n\
-take 0000130104000000014287bdab4e9c17b7ff4188081702e15ddb8f03\n\
+take PRE H2_CLIENT 0000130104000000014287bdab4e9c17b7ff4188081702e15ddb8f03\n\
 > opened 1 open 99 :method=CONNECT,:authority=10.0.1.7:80\n\
 take 00000b010400000003bf4188081702ecaeedc781\n\
 > opened 3 open 99 :method=CONNECT,:authority=10.0.3.7:80\n\
 take ACK\n\
-output 000000040100000000\n\
+output ACK\n\
 wrote 9\n\
 take 0000040800000000007fffffff\n\
 > fault 3\n\
 output 0000080700000000000000000300000003\n\
 wrote 17\n\
-# h2 saw: RemoteSettingsChanged; SettingsAcknowledged; ConnectionTerminated 3 last 3\n\
 server a first size of windows above the largest\n\
-output 00000c040000000000000300000064000600004000\n\
+output OWN_SERVER\n\
 wrote 21\n\
-take PRE\n\
-take 00002a04000000000000010000100000020000000100040000ffff000500004000000800000000000300000064000600010000\n\
-take 0000130104000000014287bdab4e9c17b7ff4188081702e15ddb8f03\n\
+take PRE H2_CLIENT 0000130104000000014287bdab4e9c17b7ff4188081702e15ddb8f03\n\
 > opened 1 open 99 :method=CONNECT,:authority=10.0.1.7:80\n\
 take 00000b010400000003bf4188081702ecaeedc781\n\
 > opened 3 open 99 :method=CONNECT,:authority=10.0.3.7:80\n\
 take ACK\n\
-output 000000040100000000\n\
+output ACK\n\
 wrote 9\n\
 take 000006040000000000000480000000\n\
 > fault 3\n\
 output 0000080700000000000000000300000003\n\
 wrote 17\n\
-# h2 saw: RemoteSettingsChanged; SettingsAcknowledged; ConnectionTerminated 3 last 3\n\
 server a stream's window above the largest\n\
-output 00000c040000000000000300000064000600004000\n\
+output OWN_SERVER\n\
 wrote 21\n\
-take PRE\n\
-take 00002a04000000000000010000100000020000000100040000ffff000500004000000800000000000300000064000600010000\n\
-take 0000130104000000014287bdab4e9c17b7ff4188081702e15ddb8f03\n\
+take PRE H2_CLIENT 0000130104000000014287bdab4e9c17b7ff4188081702e15ddb8f03\n\
 > opened 1 open 99 :method=CONNECT,:authority=10.0.1.7:80\n\
 take 00000b010400000003bf4188081702ecaeedc781\n\
 > opened 3 open 99 :method=CONNECT,:authority=10.0.3.7:80\n\
 take ACK\n\
-output 000000040100000000\n\
+output ACK\n\
 wrote 9\n\
-take 00000408000000000100000005\n\
-take 00000604000000000000047fffffff\n\
+take 00000408000000000100000005 00000604000000000000047fffffff\n\
 > fault 3\n\
 output 0000080700000000000000000300000003\n\
 wrote 17\n\
-# h2 saw: RemoteSettingsChanged; SettingsAcknowledged; ConnectionTerminated 3 last 3\n\
 server DATA on an idle stream\n\
-output 00000c040000000000000300000064000600004000\n\
+output OWN_SERVER\n\
 wrote 21\n\
-take PRE\n\
-take 00002a04000000000000010000100000020000000100040000ffff000500004000000800000000000300000064000600010000\n\
-take 0000130104000000014287bdab4e9c17b7ff4188081702e15ddb8f03\n\
+take PRE H2_CLIENT 0000130104000000014287bdab4e9c17b7ff4188081702e15ddb8f03\n\
 > opened 1 open 99 :method=CONNECT,:authority=10.0.1.7:80\n\
 take 00000b010400000003bf4188081702ecaeedc781\n\
 > opened 3 open 99 :method=CONNECT,:authority=10.0.3.7:80\n\
 take ACK\n\
-output 000000040100000000\n\
+output ACK\n\
 wrote 9\n\
 take 00000100000000000978\n\
 > fault 1\n\
 output 0000080700000000000000000300000001\n\
 wrote 17\n\
-# h2 saw: RemoteSettingsChanged; SettingsAcknowledged; ConnectionTerminated 1 last 3\n\
 server DATA on a closed stream\n\
-output 00000c040000000000000300000064000600004000\n\
+output OWN_SERVER\n\
 wrote 21\n\
-take PRE\n\
-take 00002a04000000000000010000100000020000000100040000ffff000500004000000800000000000300000064000600010000\n\
-take 0000130104000000014287bdab4e9c17b7ff4188081702e15ddb8f03\n\
+take PRE H2_CLIENT 0000130104000000014287bdab4e9c17b7ff4188081702e15ddb8f03\n\
 > opened 1 open 99 :method=CONNECT,:authority=10.0.1.7:80\n\
 take 00000b010400000003bf4188081702ecaeedc781\n\
 > opened 3 open 99 :method=CONNECT,:authority=10.0.3.7:80\n\
 take ACK\n\
-output 000000040100000000\n\
+output ACK\n\
 wrote 9\n\
 take 00000403000000000100000008\n\
 > reset 1 8\n\
@@ -1139,18 +1071,15 @@ take 00000100010000000178\n\
 > fault 5\n\
 output 0000080700000000000000000300000005\n\
 wrote 17\n\
-# h2 saw: RemoteSettingsChanged; SettingsAcknowledged; ConnectionTerminated 5 last 3\n\
 server the end of DATA twice\n\
-output 00000c040000000000000300000064000600004000\n\
+output OWN_SERVER\n\
 wrote 21\n\
-take PRE\n\
-take 00002a04000000000000010000100000020000000100040000ffff000500004000000800000000000300000064000600010000\n\
-take 0000130104000000014287bdab4e9c17b7ff4188081702e15ddb8f03\n\
+take PRE H2_CLIENT 0000130104000000014287bdab4e9c17b7ff4188081702e15ddb8f03\n\
 > opened 1 open 99 :method=CONNECT,:authority=10.0.1.7:80\n\
 take 00000b010400000003bf4188081702ecaeedc781\n\
 > opened 3 open 99 :method=CONNECT,:authority=10.0.3.7:80\n\
 take ACK\n\
-output 000000040100000000\n\
+output ACK\n\
 wrote 9\n\
 take 000000000100000001\n\
 > chunk 1\n\
@@ -1160,57 +1089,42 @@ take 000000000100000001\n\
 take 000000000100000001\n\
 output 00000403000000000100000005\n\
 wrote 13\n\
-# h2 saw: RemoteSettingsChanged; SettingsAcknowledged; StreamReset 1 5\n\
 server unknown frames\n\
-output 00000c040000000000000300000064000600004000\n\
+output OWN_SERVER\n\
 wrote 21\n\
-take PRE\n\
-take 00002a04000000000000010000100000020000000100040000ffff000500004000000800000000000300000064000600010000\n\
-take 0000130104000000014287bdab4e9c17b7ff4188081702e15ddb8f03\n\
+take PRE H2_CLIENT 0000130104000000014287bdab4e9c17b7ff4188081702e15ddb8f03\n\
 > opened 1 open 99 :method=CONNECT,:authority=10.0.1.7:80\n\
 take 00000b010400000003bf4188081702ecaeedc781\n\
 > opened 3 open 99 :method=CONNECT,:authority=10.0.3.7:80\n\
 take ACK\n\
-output 000000040100000000\n\
+output ACK\n\
 wrote 9\n\
-take 000004faff0000004d77686174\n\
-take 000000100000000000\n\
-take 000006040000000000006300000000\n\
-take 00000806 00*13\n\
-output 0000000401000000000000080601 00*12\n\
+take 000004faff0000004d77686174 000000100000000000 000006040000000000006300000000 00000806 00*13\n\
+output ACK 0000080601 00*12\n\
 wrote 26\n\
-# h2 saw: RemoteSettingsChanged; SettingsAcknowledged; SettingsAcknowledged; PingAckReceived\n\
-";
-
-pub const PART_7: &[u8] = b"\
 server padding without its octet\n\
-output 00000c040000000000000300000064000600004000\n\
+output OWN_SERVER\n\
 wrote 21\n\
-take PRE\n\
-take 00002a04000000000000010000100000020000000100040000ffff000500004000000800000000000300000064000600010000\n\
-take 0000130104000000014287bdab4e9c17b7ff4188081702e15ddb8f03\n\
+take PRE H2_CLIENT 0000130104000000014287bdab4e9c17b7ff4188081702e15ddb8f03\n\
 > opened 1 open 99 :method=CONNECT,:authority=10.0.1.7:80\n\
 take 00000b010400000003bf4188081702ecaeedc781\n\
 > opened 3 open 99 :method=CONNECT,:authority=10.0.3.7:80\n\
 take ACK\n\
-output 000000040100000000\n\
+output ACK\n\
 wrote 9\n\
 take 000000000800000001\n\
 > fault 6\n\
 output 0000080700000000000000000300000006\n\
 wrote 17\n\
-# h2 saw: RemoteSettingsChanged; SettingsAcknowledged; ConnectionTerminated 6 last 3\n\
 server padding as long as the payload, and longer\n\
-output 00000c040000000000000300000064000600004000\n\
+output OWN_SERVER\n\
 wrote 21\n\
-take PRE\n\
-take 00002a04000000000000010000100000020000000100040000ffff000500004000000800000000000300000064000600010000\n\
-take 0000130104000000014287bdab4e9c17b7ff4188081702e15ddb8f03\n\
+take PRE H2_CLIENT 0000130104000000014287bdab4e9c17b7ff4188081702e15ddb8f03\n\
 > opened 1 open 99 :method=CONNECT,:authority=10.0.1.7:80\n\
 take 00000b010400000003bf4188081702ecaeedc781\n\
 > opened 3 open 99 :method=CONNECT,:authority=10.0.3.7:80\n\
 take ACK\n\
-output 000000040100000000\n\
+output ACK\n\
 wrote 9\n\
 take 0000050008000000010461626364\n\
 > chunk 1\n\
@@ -1218,226 +1132,222 @@ take 0000050008000000010561626364\n\
 > fault 1\n\
 output 0000080700000000000000000300000001\n\
 wrote 17\n\
-# h2 saw: RemoteSettingsChanged; SettingsAcknowledged; ConnectionTerminated 1 last 3\n\
 server a short PING\n\
-output 00000c040000000000000300000064000600004000\n\
+output OWN_SERVER\n\
 wrote 21\n\
-take PRE\n\
-take 00002a04000000000000010000100000020000000100040000ffff000500004000000800000000000300000064000600010000\n\
-take 0000130104000000014287bdab4e9c17b7ff4188081702e15ddb8f03\n\
+take PRE H2_CLIENT 0000130104000000014287bdab4e9c17b7ff4188081702e15ddb8f03\n\
 > opened 1 open 99 :method=CONNECT,:authority=10.0.1.7:80\n\
 take 00000b010400000003bf4188081702ecaeedc781\n\
 > opened 3 open 99 :method=CONNECT,:authority=10.0.3.7:80\n\
 take ACK\n\
-output 000000040100000000\n\
+output ACK\n\
 wrote 9\n\
 take 00000706 00*12\n\
 > fault 6\n\
 output 0000080700000000000000000300000006\n\
 wrote 17\n\
-# h2 saw: RemoteSettingsChanged; SettingsAcknowledged; ConnectionTerminated 6 last 3\n\
 server a long RST_STREAM\n\
-output 00000c040000000000000300000064000600004000\n\
+output OWN_SERVER\n\
 wrote 21\n\
-take PRE\n\
-take 00002a04000000000000010000100000020000000100040000ffff000500004000000800000000000300000064000600010000\n\
-take 0000130104000000014287bdab4e9c17b7ff4188081702e15ddb8f03\n\
+take PRE H2_CLIENT 0000130104000000014287bdab4e9c17b7ff4188081702e15ddb8f03\n\
 > opened 1 open 99 :method=CONNECT,:authority=10.0.1.7:80\n\
 take 00000b010400000003bf4188081702ecaeedc781\n\
 > opened 3 open 99 :method=CONNECT,:authority=10.0.3.7:80\n\
 take ACK\n\
-output 000000040100000000\n\
+output ACK\n\
 wrote 9\n\
 take 0000050300000000010000000000\n\
 > fault 6\n\
 output 0000080700000000000000000300000006\n\
 wrote 17\n\
-# h2 saw: RemoteSettingsChanged; SettingsAcknowledged; ConnectionTerminated 6 last 3\n\
 server a frame that is too long\n\
-output 00000c040000000000000300000064000600004000\n\
+output OWN_SERVER\n\
 wrote 21\n\
-take PRE\n\
-take 00002a04000000000000010000100000020000000100040000ffff000500004000000800000000000300000064000600010000\n\
-take 0000130104000000014287bdab4e9c17b7ff4188081702e15ddb8f03\n\
+take PRE H2_CLIENT 0000130104000000014287bdab4e9c17b7ff4188081702e15ddb8f03\n\
 > opened 1 open 99 :method=CONNECT,:authority=10.0.1.7:80\n\
 take 00000b010400000003bf4188081702ecaeedc781\n\
 > opened 3 open 99 :method=CONNECT,:authority=10.0.3.7:80\n\
 take ACK\n\
-output 000000040100000000\n\
+output ACK\n\
 wrote 9\n\
 take 004001000000000001 00*16385\n\
 > fault 6\n\
 output 0000080700000000000000000300000006\n\
 wrote 17\n\
-# h2 saw: RemoteSettingsChanged; SettingsAcknowledged; ConnectionTerminated 6 last 3\n\
 server CONTINUATION of nothing\n\
-output 00000c040000000000000300000064000600004000\n\
+output OWN_SERVER\n\
 wrote 21\n\
-take PRE\n\
-take 00002a04000000000000010000100000020000000100040000ffff000500004000000800000000000300000064000600010000\n\
-take 0000130104000000014287bdab4e9c17b7ff4188081702e15ddb8f03\n\
+take PRE H2_CLIENT 0000130104000000014287bdab4e9c17b7ff4188081702e15ddb8f03\n\
 > opened 1 open 99 :method=CONNECT,:authority=10.0.1.7:80\n\
 take 00000b010400000003bf4188081702ecaeedc781\n\
 > opened 3 open 99 :method=CONNECT,:authority=10.0.3.7:80\n\
 take ACK\n\
-output 000000040100000000\n\
+output ACK\n\
 wrote 9\n\
 take 00000109040000000182\n\
 > fault 1\n\
 output 0000080700000000000000000300000001\n\
 wrote 17\n\
-# h2 saw: RemoteSettingsChanged; SettingsAcknowledged; ConnectionTerminated 1 last 3\n\
+";
+
+// server PING within a header block: h2 saw RemoteSettingsChanged; SettingsAcknowledged; ConnectionTerminated 1 last 3
+// server a header block that isn't one: h2 saw RemoteSettingsChanged; SettingsAcknowledged; ConnectionTerminated 9 last 3
+// server SETTINGS on a stream: h2 saw RemoteSettingsChanged; SettingsAcknowledged; ConnectionTerminated 1 last 3
+// server a frame size of 16,383: h2 saw RemoteSettingsChanged; SettingsAcknowledged; ConnectionTerminated 1 last 3
+// client a window of the connection above the largest: h2 saw RemoteSettingsChanged;
+// RequestReceived 1 :method=CONNECT :authority=10.0.0.1:80; RequestReceived 3 :method=CONNECT :authority=10.0.0.1:80;
+// SettingsAcknowledged; ConnectionTerminated 3 last 0
+// client a first size of windows above the largest: h2 saw RemoteSettingsChanged;
+// RequestReceived 1 :method=CONNECT :authority=10.0.0.1:80; RequestReceived 3 :method=CONNECT :authority=10.0.0.1:80;
+// SettingsAcknowledged; ConnectionTerminated 3 last 0
+// client a stream's window above the largest: h2 saw RemoteSettingsChanged; RequestReceived 1 :method=CONNECT :authority=10.0.0.1:80;
+// RequestReceived 3 :method=CONNECT :authority=10.0.0.1:80; SettingsAcknowledged; ConnectionTerminated 3 last 0
+// client DATA on an idle stream: h2 saw RemoteSettingsChanged; RequestReceived 1 :method=CONNECT :authority=10.0.0.1:80;
+// RequestReceived 3 :method=CONNECT :authority=10.0.0.1:80; SettingsAcknowledged; ConnectionTerminated 1 last 0
+// client DATA on a closed stream: h2 saw RemoteSettingsChanged; RequestReceived 1 :method=CONNECT :authority=10.0.0.1:80;
+// RequestReceived 3 :method=CONNECT :authority=10.0.0.1:80; SettingsAcknowledged; ConnectionTerminated 5 last 0
+// client the end of DATA twice: h2 saw RemoteSettingsChanged; RequestReceived 1 :method=CONNECT :authority=10.0.0.1:80;
+// RequestReceived 3 :method=CONNECT :authority=10.0.0.1:80; SettingsAcknowledged; StreamReset 1 5
+// client unknown frames: h2 saw RemoteSettingsChanged; RequestReceived 1 :method=CONNECT :authority=10.0.0.1:80;
+// RequestReceived 3 :method=CONNECT :authority=10.0.0.1:80; SettingsAcknowledged; SettingsAcknowledged; PingAckReceived
+// client padding without its octet: h2 saw RemoteSettingsChanged; RequestReceived 1 :method=CONNECT :authority=10.0.0.1:80;
+// RequestReceived 3 :method=CONNECT :authority=10.0.0.1:80; SettingsAcknowledged; ConnectionTerminated 6 last 0
+// client padding as long as the payload, and longer: h2 saw RemoteSettingsChanged;
+// RequestReceived 1 :method=CONNECT :authority=10.0.0.1:80; RequestReceived 3 :method=CONNECT :authority=10.0.0.1:80;
+// SettingsAcknowledged; ConnectionTerminated 1 last 0
+// client a short PING: h2 saw RemoteSettingsChanged; RequestReceived 1 :method=CONNECT :authority=10.0.0.1:80;
+// RequestReceived 3 :method=CONNECT :authority=10.0.0.1:80; SettingsAcknowledged; ConnectionTerminated 6 last 0
+// client a long RST_STREAM: h2 saw RemoteSettingsChanged; RequestReceived 1 :method=CONNECT :authority=10.0.0.1:80;
+// RequestReceived 3 :method=CONNECT :authority=10.0.0.1:80; SettingsAcknowledged; ConnectionTerminated 6 last 0
+// client a frame that is too long: h2 saw RemoteSettingsChanged; RequestReceived 1 :method=CONNECT :authority=10.0.0.1:80;
+// RequestReceived 3 :method=CONNECT :authority=10.0.0.1:80; SettingsAcknowledged; ConnectionTerminated 6 last 0
+// client CONTINUATION of nothing: h2 saw RemoteSettingsChanged; RequestReceived 1 :method=CONNECT :authority=10.0.0.1:80;
+// RequestReceived 3 :method=CONNECT :authority=10.0.0.1:80; SettingsAcknowledged; ConnectionTerminated 1 last 0
+// client PING within a header block: h2 saw RemoteSettingsChanged; RequestReceived 1 :method=CONNECT :authority=10.0.0.1:80;
+// RequestReceived 3 :method=CONNECT :authority=10.0.0.1:80; SettingsAcknowledged; ConnectionTerminated 1 last 0
+// client a header block that isn't one: h2 saw RemoteSettingsChanged; RequestReceived 1 :method=CONNECT :authority=10.0.0.1:80;
+// RequestReceived 3 :method=CONNECT :authority=10.0.0.1:80; SettingsAcknowledged; ConnectionTerminated 9 last 0
+// client SETTINGS on a stream: h2 saw RemoteSettingsChanged; RequestReceived 1 :method=CONNECT :authority=10.0.0.1:80;
+// RequestReceived 3 :method=CONNECT :authority=10.0.0.1:80; SettingsAcknowledged; ConnectionTerminated 1 last 0
+// client a frame size of 16,383: h2 saw RemoteSettingsChanged; RequestReceived 1 :method=CONNECT :authority=10.0.0.1:80;
+// RequestReceived 3 :method=CONNECT :authority=10.0.0.1:80; SettingsAcknowledged; ConnectionTerminated 1 last 0
+pub const PART_6: &[u8] = b"\
 server PING within a header block\n\
-output 00000c040000000000000300000064000600004000\n\
+output OWN_SERVER\n\
 wrote 21\n\
-take PRE\n\
-take 00002a04000000000000010000100000020000000100040000ffff000500004000000800000000000300000064000600010000\n\
-take 0000130104000000014287bdab4e9c17b7ff4188081702e15ddb8f03\n\
+take PRE H2_CLIENT 0000130104000000014287bdab4e9c17b7ff4188081702e15ddb8f03\n\
 > opened 1 open 99 :method=CONNECT,:authority=10.0.1.7:80\n\
 take 00000b010400000003bf4188081702ecaeedc781\n\
 > opened 3 open 99 :method=CONNECT,:authority=10.0.3.7:80\n\
 take ACK\n\
-output 000000040100000000\n\
+output ACK\n\
 wrote 9\n\
-take 00000101000000000188\n\
-take 00000806 00*13\n\
+take 00000101000000000188 00000806 00*13\n\
 > fault 1\n\
 output 0000080700000000000000000300000001\n\
 wrote 17\n\
-# h2 saw: RemoteSettingsChanged; SettingsAcknowledged; ConnectionTerminated 1 last 3\n\
 server a header block that isn't one\n\
-output 00000c040000000000000300000064000600004000\n\
+output OWN_SERVER\n\
 wrote 21\n\
-take PRE\n\
-take 00002a04000000000000010000100000020000000100040000ffff000500004000000800000000000300000064000600010000\n\
-take 0000130104000000014287bdab4e9c17b7ff4188081702e15ddb8f03\n\
+take PRE H2_CLIENT 0000130104000000014287bdab4e9c17b7ff4188081702e15ddb8f03\n\
 > opened 1 open 99 :method=CONNECT,:authority=10.0.1.7:80\n\
 take 00000b010400000003bf4188081702ecaeedc781\n\
 > opened 3 open 99 :method=CONNECT,:authority=10.0.3.7:80\n\
 take ACK\n\
-output 000000040100000000\n\
+output ACK\n\
 wrote 9\n\
 take 00000101040000000180\n\
 > fault 9\n\
 output 0000080700000000000000000300000009\n\
 wrote 17\n\
-# h2 saw: RemoteSettingsChanged; SettingsAcknowledged; ConnectionTerminated 9 last 3\n\
 server SETTINGS on a stream\n\
-output 00000c040000000000000300000064000600004000\n\
+output OWN_SERVER\n\
 wrote 21\n\
-take PRE\n\
-take 00002a04000000000000010000100000020000000100040000ffff000500004000000800000000000300000064000600010000\n\
-take 0000130104000000014287bdab4e9c17b7ff4188081702e15ddb8f03\n\
+take PRE H2_CLIENT 0000130104000000014287bdab4e9c17b7ff4188081702e15ddb8f03\n\
 > opened 1 open 99 :method=CONNECT,:authority=10.0.1.7:80\n\
 take 00000b010400000003bf4188081702ecaeedc781\n\
 > opened 3 open 99 :method=CONNECT,:authority=10.0.3.7:80\n\
 take ACK\n\
-output 000000040100000000\n\
+output ACK\n\
 wrote 9\n\
 take 000000040000000001\n\
 > fault 1\n\
 output 0000080700000000000000000300000001\n\
 wrote 17\n\
-# h2 saw: RemoteSettingsChanged; SettingsAcknowledged; ConnectionTerminated 1 last 3\n\
 server a frame size of 16,383\n\
-output 00000c040000000000000300000064000600004000\n\
+output OWN_SERVER\n\
 wrote 21\n\
-take PRE\n\
-take 00002a04000000000000010000100000020000000100040000ffff000500004000000800000000000300000064000600010000\n\
-take 0000130104000000014287bdab4e9c17b7ff4188081702e15ddb8f03\n\
+take PRE H2_CLIENT 0000130104000000014287bdab4e9c17b7ff4188081702e15ddb8f03\n\
 > opened 1 open 99 :method=CONNECT,:authority=10.0.1.7:80\n\
 take 00000b010400000003bf4188081702ecaeedc781\n\
 > opened 3 open 99 :method=CONNECT,:authority=10.0.3.7:80\n\
 take ACK\n\
-output 000000040100000000\n\
+output ACK\n\
 wrote 9\n\
 take 000006040000000000000500003fff\n\
 > fault 1\n\
 output 0000080700000000000000000300000001\n\
 wrote 17\n\
-# h2 saw: RemoteSettingsChanged; SettingsAcknowledged; ConnectionTerminated 1 last 3\n\
 client a window of the connection above the largest\n\
 open 1 10.0.0.1:80\n\
 open 3 10.0.0.1:80\n\
-output 505249202a20485454502f322e300d0a0d0a534d0d0a0d0a00000c04000000000000020000000000060000400000001701040000\n\
-more 0001200207434f4e4e454354010b31302e302e302e313a38300000160104000000030207434f4e4e454354010b31302e302e302e31\n\
-more 3a3830\n\
+output PRE OWN_CLIENT 000017010400000001200207434f4e4e454354010b31302e302e302e313a38300000160104000000030207434f\n\
+more 4e4e454354010b31302e302e302e313a3830\n\
 wrote 108\n\
-take 00002a04000000000000010000100000020000000000040000ffff000500004000000800000000000300000064000600010000\n\
-take ACK\n\
-output 000000040100000000\n\
+take H2_SERVER ACK\n\
+output ACK\n\
 wrote 9\n\
 take 0000040800000000007fffffff\n\
 > fault 3\n\
 output 00000807 00*12 03\n\
 wrote 17\n\
-# h2 saw: RemoteSettingsChanged; RequestReceived 1 :method=CONNECT :authority=10.0.0.1:80;\n\
-# RequestReceived 3 :method=CONNECT :authority=10.0.0.1:80; SettingsAcknowledged; ConnectionTerminated 3 last 0\n\
 client a first size of windows above the largest\n\
 open 1 10.0.0.1:80\n\
 open 3 10.0.0.1:80\n\
-output 505249202a20485454502f322e300d0a0d0a534d0d0a0d0a00000c04000000000000020000000000060000400000001701040000\n\
-more 0001200207434f4e4e454354010b31302e302e302e313a38300000160104000000030207434f4e4e454354010b31302e302e302e31\n\
-more 3a3830\n\
+output PRE OWN_CLIENT 000017010400000001200207434f4e4e454354010b31302e302e302e313a38300000160104000000030207434f\n\
+more 4e4e454354010b31302e302e302e313a3830\n\
 wrote 108\n\
-take 00002a04000000000000010000100000020000000000040000ffff000500004000000800000000000300000064000600010000\n\
-take ACK\n\
-output 000000040100000000\n\
+take H2_SERVER ACK\n\
+output ACK\n\
 wrote 9\n\
 take 000006040000000000000480000000\n\
 > fault 3\n\
 output 00000807 00*12 03\n\
 wrote 17\n\
-# h2 saw: RemoteSettingsChanged; RequestReceived 1 :method=CONNECT :authority=10.0.0.1:80;\n\
-# RequestReceived 3 :method=CONNECT :authority=10.0.0.1:80; SettingsAcknowledged; ConnectionTerminated 3 last 0\n\
-";
-
-pub const PART_8: &[u8] = b"\
 client a stream's window above the largest\n\
 open 1 10.0.0.1:80\n\
 open 3 10.0.0.1:80\n\
-output 505249202a20485454502f322e300d0a0d0a534d0d0a0d0a00000c04000000000000020000000000060000400000001701040000\n\
-more 0001200207434f4e4e454354010b31302e302e302e313a38300000160104000000030207434f4e4e454354010b31302e302e302e31\n\
-more 3a3830\n\
+output PRE OWN_CLIENT 000017010400000001200207434f4e4e454354010b31302e302e302e313a38300000160104000000030207434f\n\
+more 4e4e454354010b31302e302e302e313a3830\n\
 wrote 108\n\
-take 00002a04000000000000010000100000020000000000040000ffff000500004000000800000000000300000064000600010000\n\
-take ACK\n\
-output 000000040100000000\n\
+take H2_SERVER ACK\n\
+output ACK\n\
 wrote 9\n\
-take 00000408000000000100000005\n\
-take 00000604000000000000047fffffff\n\
+take 00000408000000000100000005 00000604000000000000047fffffff\n\
 > fault 3\n\
 output 00000807 00*12 03\n\
 wrote 17\n\
-# h2 saw: RemoteSettingsChanged; RequestReceived 1 :method=CONNECT :authority=10.0.0.1:80;\n\
-# RequestReceived 3 :method=CONNECT :authority=10.0.0.1:80; SettingsAcknowledged; ConnectionTerminated 3 last 0\n\
 client DATA on an idle stream\n\
 open 1 10.0.0.1:80\n\
 open 3 10.0.0.1:80\n\
-output 505249202a20485454502f322e300d0a0d0a534d0d0a0d0a00000c04000000000000020000000000060000400000001701040000\n\
-more 0001200207434f4e4e454354010b31302e302e302e313a38300000160104000000030207434f4e4e454354010b31302e302e302e31\n\
-more 3a3830\n\
+output PRE OWN_CLIENT 000017010400000001200207434f4e4e454354010b31302e302e302e313a38300000160104000000030207434f\n\
+more 4e4e454354010b31302e302e302e313a3830\n\
 wrote 108\n\
-take 00002a04000000000000010000100000020000000000040000ffff000500004000000800000000000300000064000600010000\n\
-take ACK\n\
-output 000000040100000000\n\
+take H2_SERVER ACK\n\
+output ACK\n\
 wrote 9\n\
 take 00000100000000000978\n\
 > fault 1\n\
 output 00000807 00*12 01\n\
 wrote 17\n\
-# h2 saw: RemoteSettingsChanged; RequestReceived 1 :method=CONNECT :authority=10.0.0.1:80;\n\
-# RequestReceived 3 :method=CONNECT :authority=10.0.0.1:80; SettingsAcknowledged; ConnectionTerminated 1 last 0\n\
 client DATA on a closed stream\n\
 open 1 10.0.0.1:80\n\
 open 3 10.0.0.1:80\n\
-output 505249202a20485454502f322e300d0a0d0a534d0d0a0d0a00000c04000000000000020000000000060000400000001701040000\n\
-more 0001200207434f4e4e454354010b31302e302e302e313a38300000160104000000030207434f4e4e454354010b31302e302e302e31\n\
-more 3a3830\n\
+output PRE OWN_CLIENT 000017010400000001200207434f4e4e454354010b31302e302e302e313a38300000160104000000030207434f\n\
+more 4e4e454354010b31302e302e302e313a3830\n\
 wrote 108\n\
-take 00002a04000000000000010000100000020000000000040000ffff000500004000000800000000000300000064000600010000\n\
-take ACK\n\
-output 000000040100000000\n\
+take H2_SERVER ACK\n\
+output ACK\n\
 wrote 9\n\
 take 00000403000000000100000008\n\
 > reset 1 8\n\
@@ -1445,18 +1355,14 @@ take 00000100010000000178\n\
 > fault 5\n\
 output 00000807 00*12 05\n\
 wrote 17\n\
-# h2 saw: RemoteSettingsChanged; RequestReceived 1 :method=CONNECT :authority=10.0.0.1:80;\n\
-# RequestReceived 3 :method=CONNECT :authority=10.0.0.1:80; SettingsAcknowledged; ConnectionTerminated 5 last 0\n\
 client the end of DATA twice\n\
 open 1 10.0.0.1:80\n\
 open 3 10.0.0.1:80\n\
-output 505249202a20485454502f322e300d0a0d0a534d0d0a0d0a00000c04000000000000020000000000060000400000001701040000\n\
-more 0001200207434f4e4e454354010b31302e302e302e313a38300000160104000000030207434f4e4e454354010b31302e302e302e31\n\
-more 3a3830\n\
+output PRE OWN_CLIENT 000017010400000001200207434f4e4e454354010b31302e302e302e313a38300000160104000000030207434f\n\
+more 4e4e454354010b31302e302e302e313a3830\n\
 wrote 108\n\
-take 00002a04000000000000010000100000020000000000040000ffff000500004000000800000000000300000064000600010000\n\
-take ACK\n\
-output 000000040100000000\n\
+take H2_SERVER ACK\n\
+output ACK\n\
 wrote 9\n\
 take 000000000100000001\n\
 > chunk 1\n\
@@ -1466,54 +1372,39 @@ take 000000000100000001\n\
 take 000000000100000001\n\
 output 00000403000000000100000005\n\
 wrote 13\n\
-# h2 saw: RemoteSettingsChanged; RequestReceived 1 :method=CONNECT :authority=10.0.0.1:80;\n\
-# RequestReceived 3 :method=CONNECT :authority=10.0.0.1:80; SettingsAcknowledged; StreamReset 1 5\n\
 client unknown frames\n\
 open 1 10.0.0.1:80\n\
 open 3 10.0.0.1:80\n\
-output 505249202a20485454502f322e300d0a0d0a534d0d0a0d0a00000c04000000000000020000000000060000400000001701040000\n\
-more 0001200207434f4e4e454354010b31302e302e302e313a38300000160104000000030207434f4e4e454354010b31302e302e302e31\n\
-more 3a3830\n\
+output PRE OWN_CLIENT 000017010400000001200207434f4e4e454354010b31302e302e302e313a38300000160104000000030207434f\n\
+more 4e4e454354010b31302e302e302e313a3830\n\
 wrote 108\n\
-take 00002a04000000000000010000100000020000000000040000ffff000500004000000800000000000300000064000600010000\n\
-take ACK\n\
-output 000000040100000000\n\
+take H2_SERVER ACK\n\
+output ACK\n\
 wrote 9\n\
-take 000004faff0000004d77686174\n\
-take 000000100000000000\n\
-take 000006040000000000006300000000\n\
-take 00000806 00*13\n\
-output 0000000401000000000000080601 00*12\n\
+take 000004faff0000004d77686174 000000100000000000 000006040000000000006300000000 00000806 00*13\n\
+output ACK 0000080601 00*12\n\
 wrote 26\n\
-# h2 saw: RemoteSettingsChanged; RequestReceived 1 :method=CONNECT :authority=10.0.0.1:80;\n\
-# RequestReceived 3 :method=CONNECT :authority=10.0.0.1:80; SettingsAcknowledged; SettingsAcknowledged; PingAckReceived\n\
 client padding without its octet\n\
 open 1 10.0.0.1:80\n\
 open 3 10.0.0.1:80\n\
-output 505249202a20485454502f322e300d0a0d0a534d0d0a0d0a00000c04000000000000020000000000060000400000001701040000\n\
-more 0001200207434f4e4e454354010b31302e302e302e313a38300000160104000000030207434f4e4e454354010b31302e302e302e31\n\
-more 3a3830\n\
+output PRE OWN_CLIENT 000017010400000001200207434f4e4e454354010b31302e302e302e313a38300000160104000000030207434f\n\
+more 4e4e454354010b31302e302e302e313a3830\n\
 wrote 108\n\
-take 00002a04000000000000010000100000020000000000040000ffff000500004000000800000000000300000064000600010000\n\
-take ACK\n\
-output 000000040100000000\n\
+take H2_SERVER ACK\n\
+output ACK\n\
 wrote 9\n\
 take 000000000800000001\n\
 > fault 6\n\
 output 00000807 00*12 06\n\
 wrote 17\n\
-# h2 saw: RemoteSettingsChanged; RequestReceived 1 :method=CONNECT :authority=10.0.0.1:80;\n\
-# RequestReceived 3 :method=CONNECT :authority=10.0.0.1:80; SettingsAcknowledged; ConnectionTerminated 6 last 0\n\
 client padding as long as the payload, and longer\n\
 open 1 10.0.0.1:80\n\
 open 3 10.0.0.1:80\n\
-output 505249202a20485454502f322e300d0a0d0a534d0d0a0d0a00000c04000000000000020000000000060000400000001701040000\n\
-more 0001200207434f4e4e454354010b31302e302e302e313a38300000160104000000030207434f4e4e454354010b31302e302e302e31\n\
-more 3a3830\n\
+output PRE OWN_CLIENT 000017010400000001200207434f4e4e454354010b31302e302e302e313a38300000160104000000030207434f\n\
+more 4e4e454354010b31302e302e302e313a3830\n\
 wrote 108\n\
-take 00002a04000000000000010000100000020000000000040000ffff000500004000000800000000000300000064000600010000\n\
-take ACK\n\
-output 000000040100000000\n\
+take H2_SERVER ACK\n\
+output ACK\n\
 wrote 9\n\
 take 0000050008000000010461626364\n\
 > chunk 1\n\
@@ -1521,228 +1412,209 @@ take 0000050008000000010561626364\n\
 > fault 1\n\
 output 00000807 00*12 01\n\
 wrote 17\n\
-# h2 saw: RemoteSettingsChanged; RequestReceived 1 :method=CONNECT :authority=10.0.0.1:80;\n\
-# RequestReceived 3 :method=CONNECT :authority=10.0.0.1:80; SettingsAcknowledged; ConnectionTerminated 1 last 0\n\
 client a short PING\n\
 open 1 10.0.0.1:80\n\
 open 3 10.0.0.1:80\n\
-output 505249202a20485454502f322e300d0a0d0a534d0d0a0d0a00000c04000000000000020000000000060000400000001701040000\n\
-more 0001200207434f4e4e454354010b31302e302e302e313a38300000160104000000030207434f4e4e454354010b31302e302e302e31\n\
-more 3a3830\n\
+output PRE OWN_CLIENT 000017010400000001200207434f4e4e454354010b31302e302e302e313a38300000160104000000030207434f\n\
+more 4e4e454354010b31302e302e302e313a3830\n\
 wrote 108\n\
-take 00002a04000000000000010000100000020000000000040000ffff000500004000000800000000000300000064000600010000\n\
-take ACK\n\
-output 000000040100000000\n\
+take H2_SERVER ACK\n\
+output ACK\n\
 wrote 9\n\
 take 00000706 00*12\n\
 > fault 6\n\
 output 00000807 00*12 06\n\
 wrote 17\n\
-# h2 saw: RemoteSettingsChanged; RequestReceived 1 :method=CONNECT :authority=10.0.0.1:80;\n\
-# RequestReceived 3 :method=CONNECT :authority=10.0.0.1:80; SettingsAcknowledged; ConnectionTerminated 6 last 0\n\
 client a long RST_STREAM\n\
 open 1 10.0.0.1:80\n\
 open 3 10.0.0.1:80\n\
-output 505249202a20485454502f322e300d0a0d0a534d0d0a0d0a00000c04000000000000020000000000060000400000001701040000\n\
-more 0001200207434f4e4e454354010b31302e302e302e313a38300000160104000000030207434f4e4e454354010b31302e302e302e31\n\
-more 3a3830\n\
+output PRE OWN_CLIENT 000017010400000001200207434f4e4e454354010b31302e302e302e313a38300000160104000000030207434f\n\
+more 4e4e454354010b31302e302e302e313a3830\n\
 wrote 108\n\
-take 00002a04000000000000010000100000020000000000040000ffff000500004000000800000000000300000064000600010000\n\
-take ACK\n\
-output 000000040100000000\n\
+take H2_SERVER ACK\n\
+output ACK\n\
 wrote 9\n\
 take 0000050300000000010000000000\n\
 > fault 6\n\
 output 00000807 00*12 06\n\
 wrote 17\n\
-# h2 saw: RemoteSettingsChanged; RequestReceived 1 :method=CONNECT :authority=10.0.0.1:80;\n\
-# RequestReceived 3 :method=CONNECT :authority=10.0.0.1:80; SettingsAcknowledged; ConnectionTerminated 6 last 0\n\
 client a frame that is too long\n\
 open 1 10.0.0.1:80\n\
 open 3 10.0.0.1:80\n\
-output 505249202a20485454502f322e300d0a0d0a534d0d0a0d0a00000c04000000000000020000000000060000400000001701040000\n\
-more 0001200207434f4e4e454354010b31302e302e302e313a38300000160104000000030207434f4e4e454354010b31302e302e302e31\n\
-more 3a3830\n\
+output PRE OWN_CLIENT 000017010400000001200207434f4e4e454354010b31302e302e302e313a38300000160104000000030207434f\n\
+more 4e4e454354010b31302e302e302e313a3830\n\
 wrote 108\n\
-take 00002a04000000000000010000100000020000000000040000ffff000500004000000800000000000300000064000600010000\n\
-take ACK\n\
-output 000000040100000000\n\
+take H2_SERVER ACK\n\
+output ACK\n\
 wrote 9\n\
 take 004001000000000001 00*16385\n\
 > fault 6\n\
 output 00000807 00*12 06\n\
 wrote 17\n\
-# h2 saw: RemoteSettingsChanged; RequestReceived 1 :method=CONNECT :authority=10.0.0.1:80;\n\
-# RequestReceived 3 :method=CONNECT :authority=10.0.0.1:80; SettingsAcknowledged; ConnectionTerminated 6 last 0\n\
-";
-
-pub const PART_9: &[u8] = b"\
 client CONTINUATION of nothing\n\
 open 1 10.0.0.1:80\n\
 open 3 10.0.0.1:80\n\
-output 505249202a20485454502f322e300d0a0d0a534d0d0a0d0a00000c04000000000000020000000000060000400000001701040000\n\
-more 0001200207434f4e4e454354010b31302e302e302e313a38300000160104000000030207434f4e4e454354010b31302e302e302e31\n\
-more 3a3830\n\
+output PRE OWN_CLIENT 000017010400000001200207434f4e4e454354010b31302e302e302e313a38300000160104000000030207434f\n\
+more 4e4e454354010b31302e302e302e313a3830\n\
 wrote 108\n\
-take 00002a04000000000000010000100000020000000000040000ffff000500004000000800000000000300000064000600010000\n\
-take ACK\n\
-output 000000040100000000\n\
+take H2_SERVER ACK\n\
+output ACK\n\
 wrote 9\n\
 take 00000109040000000182\n\
 > fault 1\n\
 output 00000807 00*12 01\n\
 wrote 17\n\
-# h2 saw: RemoteSettingsChanged; RequestReceived 1 :method=CONNECT :authority=10.0.0.1:80;\n\
-# RequestReceived 3 :method=CONNECT :authority=10.0.0.1:80; SettingsAcknowledged; ConnectionTerminated 1 last 0\n\
 client PING within a header block\n\
 open 1 10.0.0.1:80\n\
 open 3 10.0.0.1:80\n\
-output 505249202a20485454502f322e300d0a0d0a534d0d0a0d0a00000c04000000000000020000000000060000400000001701040000\n\
-more 0001200207434f4e4e454354010b31302e302e302e313a38300000160104000000030207434f4e4e454354010b31302e302e302e31\n\
-more 3a3830\n\
+output PRE OWN_CLIENT 000017010400000001200207434f4e4e454354010b31302e302e302e313a38300000160104000000030207434f\n\
+more 4e4e454354010b31302e302e302e313a3830\n\
 wrote 108\n\
-take 00002a04000000000000010000100000020000000000040000ffff000500004000000800000000000300000064000600010000\n\
-take ACK\n\
-output 000000040100000000\n\
+take H2_SERVER ACK\n\
+output ACK\n\
 wrote 9\n\
-take 00000101000000000188\n\
-take 00000806 00*13\n\
+take 00000101000000000188 00000806 00*13\n\
 > fault 1\n\
 output 00000807 00*12 01\n\
 wrote 17\n\
-# h2 saw: RemoteSettingsChanged; RequestReceived 1 :method=CONNECT :authority=10.0.0.1:80;\n\
-# RequestReceived 3 :method=CONNECT :authority=10.0.0.1:80; SettingsAcknowledged; ConnectionTerminated 1 last 0\n\
 client a header block that isn't one\n\
 open 1 10.0.0.1:80\n\
 open 3 10.0.0.1:80\n\
-output 505249202a20485454502f322e300d0a0d0a534d0d0a0d0a00000c04000000000000020000000000060000400000001701040000\n\
-more 0001200207434f4e4e454354010b31302e302e302e313a38300000160104000000030207434f4e4e454354010b31302e302e302e31\n\
-more 3a3830\n\
+output PRE OWN_CLIENT 000017010400000001200207434f4e4e454354010b31302e302e302e313a38300000160104000000030207434f\n\
+more 4e4e454354010b31302e302e302e313a3830\n\
 wrote 108\n\
-take 00002a04000000000000010000100000020000000000040000ffff000500004000000800000000000300000064000600010000\n\
-take ACK\n\
-output 000000040100000000\n\
+take H2_SERVER ACK\n\
+output ACK\n\
 wrote 9\n\
 take 00000101040000000180\n\
 > fault 9\n\
 output 00000807 00*12 09\n\
 wrote 17\n\
-# h2 saw: RemoteSettingsChanged; RequestReceived 1 :method=CONNECT :authority=10.0.0.1:80;\n\
-# RequestReceived 3 :method=CONNECT :authority=10.0.0.1:80; SettingsAcknowledged; ConnectionTerminated 9 last 0\n\
 client SETTINGS on a stream\n\
 open 1 10.0.0.1:80\n\
 open 3 10.0.0.1:80\n\
-output 505249202a20485454502f322e300d0a0d0a534d0d0a0d0a00000c04000000000000020000000000060000400000001701040000\n\
-more 0001200207434f4e4e454354010b31302e302e302e313a38300000160104000000030207434f4e4e454354010b31302e302e302e31\n\
-more 3a3830\n\
+output PRE OWN_CLIENT 000017010400000001200207434f4e4e454354010b31302e302e302e313a38300000160104000000030207434f\n\
+more 4e4e454354010b31302e302e302e313a3830\n\
 wrote 108\n\
-take 00002a04000000000000010000100000020000000000040000ffff000500004000000800000000000300000064000600010000\n\
-take ACK\n\
-output 000000040100000000\n\
+take H2_SERVER ACK\n\
+output ACK\n\
 wrote 9\n\
 take 000000040000000001\n\
 > fault 1\n\
 output 00000807 00*12 01\n\
 wrote 17\n\
-# h2 saw: RemoteSettingsChanged; RequestReceived 1 :method=CONNECT :authority=10.0.0.1:80;\n\
-# RequestReceived 3 :method=CONNECT :authority=10.0.0.1:80; SettingsAcknowledged; ConnectionTerminated 1 last 0\n\
 client a frame size of 16,383\n\
 open 1 10.0.0.1:80\n\
 open 3 10.0.0.1:80\n\
-output 505249202a20485454502f322e300d0a0d0a534d0d0a0d0a00000c04000000000000020000000000060000400000001701040000\n\
-more 0001200207434f4e4e454354010b31302e302e302e313a38300000160104000000030207434f4e4e454354010b31302e302e302e31\n\
-more 3a3830\n\
+output PRE OWN_CLIENT 000017010400000001200207434f4e4e454354010b31302e302e302e313a38300000160104000000030207434f\n\
+more 4e4e454354010b31302e302e302e313a3830\n\
 wrote 108\n\
-take 00002a04000000000000010000100000020000000000040000ffff000500004000000800000000000300000064000600010000\n\
-take ACK\n\
-output 000000040100000000\n\
+take H2_SERVER ACK\n\
+output ACK\n\
 wrote 9\n\
 take 000006040000000000000500003fff\n\
 > fault 1\n\
 output 00000807 00*12 01\n\
 wrote 17\n\
-# h2 saw: RemoteSettingsChanged; RequestReceived 1 :method=CONNECT :authority=10.0.0.1:80;\n\
-# RequestReceived 3 :method=CONNECT :authority=10.0.0.1:80; SettingsAcknowledged; ConnectionTerminated 1 last 0\n\
+";
+
+// client a pushed stream: h2 saw RemoteSettingsChanged; RequestReceived 1 :method=CONNECT :authority=10.0.0.1:80;
+// RequestReceived 3 :method=CONNECT :authority=10.0.0.1:80; SettingsAcknowledged; ConnectionTerminated 1 last 0
+// client push is enabled by a server: h2 saw RemoteSettingsChanged; RequestReceived 1 :method=CONNECT :authority=10.0.0.1:80;
+// RequestReceived 3 :method=CONNECT :authority=10.0.0.1:80; SettingsAcknowledged; ConnectionTerminated 1 last 0
+// server push is enabled by a client: h2 saw RemoteSettingsChanged; SettingsAcknowledged; SettingsAcknowledged;
+// ConnectionTerminated 1 last 3
+// client HEADERS of a stream that isn't this client's: h2 saw RemoteSettingsChanged;
+// RequestReceived 1 :method=CONNECT :authority=10.0.0.1:80; RequestReceived 3 :method=CONNECT :authority=10.0.0.1:80;
+// SettingsAcknowledged; ConnectionTerminated 1 last 0
+// server HEADERS on a skipped stream: h2 saw RemoteSettingsChanged; SettingsAcknowledged; ConnectionTerminated 5 last 9
+// client one answer: h2 saw RemoteSettingsChanged; RequestReceived 1 :method=CONNECT :authority=10.0.0.1:80; SettingsAcknowledged;
+// DataReceived 1 5; DataReceived 1 0; StreamEnded 1
+// client trailers and interim answers: h2 saw RemoteSettingsChanged; RequestReceived 1 :method=CONNECT :authority=10.0.0.1:80;
+// StreamEnded 1; RequestReceived 3 :method=CONNECT :authority=a.example:1; StreamEnded 3; SettingsAcknowledged
+// client the peers limit of streams: h2 saw RemoteSettingsChanged; SettingsAcknowledged; SettingsAcknowledged;
+// RequestReceived 1 :method=CONNECT :authority=10.0.0.1:80; RequestReceived 3 :method=CONNECT :authority=10.0.0.1:80; StreamReset 1 8;
+// RequestReceived 5 :method=CONNECT :authority=10.0.0.2:80; DataReceived 3 0; StreamEnded 3;
+// RequestReceived 7 :method=CONNECT :authority=10.0.0.4:80
+// client the server goes away: h2 saw RemoteSettingsChanged; RequestReceived 1 :method=CONNECT :authority=10.0.0.1:80;
+// RequestReceived 3 :method=CONNECT :authority=10.0.0.1:80; RequestReceived 5 :method=CONNECT :authority=10.0.0.1:80;
+// SettingsAcknowledged; nothing more, since it is gone
+// client the server refuses: h2 saw RemoteSettingsChanged; RequestReceived 1 :method=CONNECT :authority=10.0.0.1:80;
+// RequestReceived 3 :method=CONNECT :authority=10.0.0.1:80; RequestReceived 5 :method=CONNECT :authority=10.0.0.1:80;
+// SettingsAcknowledged; StreamReset 3 0
+// server another preface: h2 saw RemoteSettingsChanged; ConnectionTerminated 1 last 0
+// server SETTINGS come first: h2 saw RemoteSettingsChanged; ConnectionTerminated 1 last 0
+// client an acknowledgement comes first: h2 saw RemoteSettingsChanged; ConnectionTerminated 1 last 0
+// server by chance, seed 0: h2 saw RemoteSettingsChanged; SettingsAcknowledged; PingAckReceived; SettingsAcknowledged; PingAckReceived;
+// ResponseReceived 1 :status=200; DataReceived 1 0; StreamEnded 1; PingAckReceived; ResponseReceived 3 :status=400; StreamEnded 3;
+// StreamReset 7 8
+// client by chance, seed 1: h2 saw RemoteSettingsChanged; SettingsAcknowledged; PingAckReceived; PingAckReceived;
+// RequestReceived 1 :method=CONNECT :authority=10.0.0.0:80; RequestReceived 3 :method=CONNECT :authority=10.0.0.1:80;
+// SettingsAcknowledged; RequestReceived 5 :method=CONNECT :authority=10.0.0.2:80;
+// RequestReceived 7 :method=CONNECT :authority=10.0.0.3:80; StreamEnded 7; PingAckReceived
+pub const PART_7: &[u8] = b"\
 client a pushed stream\n\
 open 1 10.0.0.1:80\n\
 open 3 10.0.0.1:80\n\
-output 505249202a20485454502f322e300d0a0d0a534d0d0a0d0a00000c04000000000000020000000000060000400000001701040000\n\
-more 0001200207434f4e4e454354010b31302e302e302e313a38300000160104000000030207434f4e4e454354010b31302e302e302e31\n\
-more 3a3830\n\
+output PRE OWN_CLIENT 000017010400000001200207434f4e4e454354010b31302e302e302e313a38300000160104000000030207434f\n\
+more 4e4e454354010b31302e302e302e313a3830\n\
 wrote 108\n\
-take 00002a04000000000000010000100000020000000000040000ffff000500004000000800000000000300000064000600010000\n\
-take ACK\n\
-output 000000040100000000\n\
+take H2_SERVER ACK\n\
+output ACK\n\
 wrote 9\n\
 take 0000050504000000010000000282\n\
 > fault 1\n\
 output 00000807 00*12 01\n\
 wrote 17\n\
-# h2 saw: RemoteSettingsChanged; RequestReceived 1 :method=CONNECT :authority=10.0.0.1:80;\n\
-# RequestReceived 3 :method=CONNECT :authority=10.0.0.1:80; SettingsAcknowledged; ConnectionTerminated 1 last 0\n\
 client push is enabled by a server\n\
 open 1 10.0.0.1:80\n\
 open 3 10.0.0.1:80\n\
-output 505249202a20485454502f322e300d0a0d0a534d0d0a0d0a00000c04000000000000020000000000060000400000001701040000\n\
-more 0001200207434f4e4e454354010b31302e302e302e313a38300000160104000000030207434f4e4e454354010b31302e302e302e31\n\
-more 3a3830\n\
+output PRE OWN_CLIENT 000017010400000001200207434f4e4e454354010b31302e302e302e313a38300000160104000000030207434f\n\
+more 4e4e454354010b31302e302e302e313a3830\n\
 wrote 108\n\
-take 00002a04000000000000010000100000020000000000040000ffff000500004000000800000000000300000064000600010000\n\
-take ACK\n\
-output 000000040100000000\n\
+take H2_SERVER ACK\n\
+output ACK\n\
 wrote 9\n\
 take 000006040000000000000200000001\n\
 > fault 1\n\
 output 00000807 00*12 01\n\
 wrote 17\n\
-# h2 saw: RemoteSettingsChanged; RequestReceived 1 :method=CONNECT :authority=10.0.0.1:80;\n\
-# RequestReceived 3 :method=CONNECT :authority=10.0.0.1:80; SettingsAcknowledged; ConnectionTerminated 1 last 0\n\
 server push is enabled by a client\n\
-output 00000c040000000000000300000064000600004000\n\
+output OWN_SERVER\n\
 wrote 21\n\
-take PRE\n\
-take 00002a04000000000000010000100000020000000100040000ffff000500004000000800000000000300000064000600010000\n\
-take 0000130104000000014287bdab4e9c17b7ff4188081702e15ddb8f03\n\
+take PRE H2_CLIENT 0000130104000000014287bdab4e9c17b7ff4188081702e15ddb8f03\n\
 > opened 1 open 99 :method=CONNECT,:authority=10.0.1.7:80\n\
 take 00000b010400000003bf4188081702ecaeedc781\n\
 > opened 3 open 99 :method=CONNECT,:authority=10.0.3.7:80\n\
 take ACK\n\
-output 000000040100000000\n\
+output ACK\n\
 wrote 9\n\
-take 000006040000000000000200000001\n\
-take 000006040000000000000200000002\n\
+take 000006040000000000000200000001 000006040000000000000200000002\n\
 > fault 1\n\
-output 0000000401000000000000080700000000000000000300000001\n\
+output ACK 0000080700000000000000000300000001\n\
 wrote 26\n\
-# h2 saw: RemoteSettingsChanged; SettingsAcknowledged; SettingsAcknowledged; ConnectionTerminated 1 last 3\n\
 client HEADERS of a stream that isn't this client's\n\
 open 1 10.0.0.1:80\n\
 open 3 10.0.0.1:80\n\
-output 505249202a20485454502f322e300d0a0d0a534d0d0a0d0a00000c04000000000000020000000000060000400000001701040000\n\
-more 0001200207434f4e4e454354010b31302e302e302e313a38300000160104000000030207434f4e4e454354010b31302e302e302e31\n\
-more 3a3830\n\
+output PRE OWN_CLIENT 000017010400000001200207434f4e4e454354010b31302e302e302e313a38300000160104000000030207434f\n\
+more 4e4e454354010b31302e302e302e313a3830\n\
 wrote 108\n\
-take 00002a04000000000000010000100000020000000000040000ffff000500004000000800000000000300000064000600010000\n\
-take ACK\n\
-output 000000040100000000\n\
+take H2_SERVER ACK\n\
+output ACK\n\
 wrote 9\n\
 take 00000101040000000288\n\
 > fault 1\n\
 output 00000807 00*12 01\n\
 wrote 17\n\
-# h2 saw: RemoteSettingsChanged; RequestReceived 1 :method=CONNECT :authority=10.0.0.1:80;\n\
-# RequestReceived 3 :method=CONNECT :authority=10.0.0.1:80; SettingsAcknowledged; ConnectionTerminated 1 last 0\n\
 server HEADERS on a skipped stream\n\
-output 00000c040000000000000300000064000600004000\n\
+output OWN_SERVER\n\
 wrote 21\n\
-take PRE\n\
-take 00002a04000000000000010000100000020000000100040000ffff000500004000000800000000000300000064000600010000\n\
-take 0000130104000000014287bdab4e9c17b7ff4188081702e15ddb8f03\n\
+take PRE H2_CLIENT 0000130104000000014287bdab4e9c17b7ff4188081702e15ddb8f03\n\
 > opened 1 open 99 :method=CONNECT,:authority=10.0.1.7:80\n\
 take 00000b010400000003bf4188081702ecaeedc781\n\
 > opened 3 open 99 :method=CONNECT,:authority=10.0.3.7:80\n\
 take ACK\n\
-output 000000040100000000\n\
+output ACK\n\
 wrote 9\n\
 take 00000101040000000982\n\
 > opened 9 open 42 :method=GET\n\
@@ -1750,15 +1622,12 @@ take 00000101040000000782\n\
 > fault 5\n\
 output 0000080700000000000000000900000005\n\
 wrote 17\n\
-# h2 saw: RemoteSettingsChanged; SettingsAcknowledged; ConnectionTerminated 5 last 9\n\
 client one answer\n\
 open 1 10.0.0.1:80\n\
-output 505249202a20485454502f322e300d0a0d0a534d0d0a0d0a00000c04000000000000020000000000060000400000001701040000\n\
-more 0001200207434f4e4e454354010b31302e302e302e313a3830\n\
+output PRE OWN_CLIENT 000017010400000001200207434f4e4e454354010b31302e302e302e313a3830\n\
 wrote 77\n\
-take 00002a04000000000000010000100000020000000000040000ffff000500004000000800000000000300000064000600010000\n\
-take ACK\n\
-output 000000040100000000\n\
+take H2_SERVER ACK\n\
+output ACK\n\
 wrote 9\n\
 take 00000101040000000188\n\
 > opened 1 open 42 :status=200\n\
@@ -1773,21 +1642,14 @@ wrote 9\n\
 take 000000000100000001\n\
 > chunk 1\n\
 > ended 1\n\
-# h2 saw: RemoteSettingsChanged; RequestReceived 1 :method=CONNECT :authority=10.0.0.1:80; SettingsAcknowledged; DataReceived 1 5;\n\
-# DataReceived 1 0; StreamEnded 1\n\
-";
-
-pub const PART_10: &[u8] = b"\
 client trailers and interim answers\n\
 open 1 10.0.0.1:80 end\n\
 open 3 a.example:1 end\n\
-output 505249202a20485454502f322e300d0a0d0a534d0d0a0d0a00000c04000000000000020000000000060000400000001701050000\n\
-more 0001200207434f4e4e454354010b31302e302e302e313a38300000160105000000030207434f4e4e454354010b612e6578616d706c\n\
-more 653a31\n\
+output PRE OWN_CLIENT 000017010500000001200207434f4e4e454354010b31302e302e302e313a38300000160105000000030207434f\n\
+more 4e4e454354010b612e6578616d706c653a31\n\
 wrote 108\n\
-take 00002a04000000000000010000100000020000000000040000ffff000500004000000800000000000300000064000600010000\n\
-take ACK\n\
-output 000000040100000000\n\
+take H2_SERVER ACK\n\
+output ACK\n\
 wrote 9\n\
 take 00000401040000000148820801\n\
 > opened 1 open 42 :status=100\n\
@@ -1801,17 +1663,13 @@ take 00000c01050000000140889acac8b21234da8f8107\n\
 > opened 1 end 44 grpc-status=0\n\
 take 00000501050000000348836c0cff\n\
 > opened 3 end 42 :status=503\n\
-# h2 saw: RemoteSettingsChanged; RequestReceived 1 :method=CONNECT :authority=10.0.0.1:80; StreamEnded 1;\n\
-# RequestReceived 3 :method=CONNECT :authority=a.example:1; StreamEnded 3; SettingsAcknowledged\n\
 client the peers limit of streams\n\
-take 00002a04000000000000010000100000020000000000040000ffff000500004000000800000000000300000064000600010000\n\
-take 000006040000000000000300000002\n\
+take H2_SERVER 000006040000000000000300000002\n\
 open 1 10.0.0.1:80\n\
 open 3 10.0.0.1:80\n\
 open 0 10.0.0.1:80\n\
-output 505249202a20485454502f322e300d0a0d0a534d0d0a0d0a00000c04000000000000020000000000060000400000000004010000\n\
-more 0000000000040100000000000017010400000001200207434f4e4e454354010b31302e302e302e313a383000001601040000000302\n\
-more 07434f4e4e454354010b31302e302e302e313a3830\n\
+output PRE OWN_CLIENT ACK ACK 000017010400000001200207434f4e4e454354010b31302e302e302e313a3830000016010400000003\n\
+more 0207434f4e4e454354010b31302e302e302e313a3830\n\
 wrote 126\n\
 take ACK\n\
 reset 1 8\n\
@@ -1826,20 +1684,15 @@ end 3\n\
 open 7 10.0.0.4:80\n\
 output 0000000001000000030000160104000000070207434f4e4e454354010b31302e302e302e343a3830\n\
 wrote 40\n\
-# h2 saw: RemoteSettingsChanged; SettingsAcknowledged; SettingsAcknowledged; RequestReceived 1 :method=CONNECT :authority=10.0.0.1:80;\n\
-# RequestReceived 3 :method=CONNECT :authority=10.0.0.1:80; StreamReset 1 8; RequestReceived 5 :method=CONNECT :authority=10.0.0.2:80;\n\
-# DataReceived 3 0; StreamEnded 3; RequestReceived 7 :method=CONNECT :authority=10.0.0.4:80\n\
 client the server goes away\n\
 open 1 10.0.0.1:80\n\
 open 3 10.0.0.1:80\n\
 open 5 10.0.0.1:80\n\
-output 505249202a20485454502f322e300d0a0d0a534d0d0a0d0a00000c04000000000000020000000000060000400000001701040000\n\
-more 0001200207434f4e4e454354010b31302e302e302e313a38300000160104000000030207434f4e4e454354010b31302e302e302e31\n\
-more 3a38300000160104000000050207434f4e4e454354010b31302e302e302e313a3830\n\
+output PRE OWN_CLIENT 000017010400000001200207434f4e4e454354010b31302e302e302e313a38300000160104000000030207434f\n\
+more 4e4e454354010b31302e302e302e313a38300000160104000000050207434f4e4e454354010b31302e302e302e313a3830\n\
 wrote 139\n\
-take 00002a04000000000000010000100000020000000000040000ffff000500004000000800000000000300000064000600010000\n\
-take ACK\n\
-output 000000040100000000\n\
+take H2_SERVER ACK\n\
+output ACK\n\
 wrote 9\n\
 take 00000101040000000188\n\
 > opened 1 open 42 :status=200\n\
@@ -1848,20 +1701,15 @@ take 0000080700000000000000000300000000\n\
 some 1 8 6161616161616161\n\
 output 0000080000000000016161616161616161\n\
 wrote 17\n\
-# h2 saw: RemoteSettingsChanged; RequestReceived 1 :method=CONNECT :authority=10.0.0.1:80;\n\
-# RequestReceived 3 :method=CONNECT :authority=10.0.0.1:80; RequestReceived 5 :method=CONNECT :authority=10.0.0.1:80;\n\
-# SettingsAcknowledged; nothing more, since it is gone\n\
 client the server refuses\n\
 open 1 10.0.0.1:80\n\
 open 3 10.0.0.1:80\n\
 open 5 10.0.0.1:80\n\
-output 505249202a20485454502f322e300d0a0d0a534d0d0a0d0a00000c04000000000000020000000000060000400000001701040000\n\
-more 0001200207434f4e4e454354010b31302e302e302e313a38300000160104000000030207434f4e4e454354010b31302e302e302e31\n\
-more 3a38300000160104000000050207434f4e4e454354010b31302e302e302e313a3830\n\
+output PRE OWN_CLIENT 000017010400000001200207434f4e4e454354010b31302e302e302e313a38300000160104000000030207434f\n\
+more 4e4e454354010b31302e302e302e313a38300000160104000000050207434f4e4e454354010b31302e302e302e313a3830\n\
 wrote 139\n\
-take 00002a04000000000000010000100000020000000000040000ffff000500004000000800000000000300000064000600010000\n\
-take ACK\n\
-output 000000040100000000\n\
+take H2_SERVER ACK\n\
+output ACK\n\
 wrote 9\n\
 take 00000403000000000100000007\n\
 > reset 1 7\n\
@@ -1873,42 +1721,32 @@ take 00000403000000000500000008\n\
 > reset 5 8\n\
 output 00000403000000000300000000\n\
 wrote 13\n\
-# h2 saw: RemoteSettingsChanged; RequestReceived 1 :method=CONNECT :authority=10.0.0.1:80;\n\
-# RequestReceived 3 :method=CONNECT :authority=10.0.0.1:80; RequestReceived 5 :method=CONNECT :authority=10.0.0.1:80;\n\
-# SettingsAcknowledged; StreamReset 3 0\n\
 server another preface\n\
 take 505249202a20485454502f322e300d0a0d0a534d0d0a0d0b\n\
 > fault 1\n\
-output 00000c04000000000000030000006400060000400000000807 00*12 01\n\
+output OWN_SERVER 00000807 00*12 01\n\
 wrote 38\n\
-# h2 saw: RemoteSettingsChanged; ConnectionTerminated 1 last 0\n\
 server SETTINGS come first\n\
-take PRE\n\
-take 00000806 00*13\n\
+take PRE 00000806 00*13\n\
 > fault 1\n\
-output 00000c04000000000000030000006400060000400000000807 00*12 01\n\
+output OWN_SERVER 00000807 00*12 01\n\
 wrote 38\n\
-# h2 saw: RemoteSettingsChanged; ConnectionTerminated 1 last 0\n\
 client an acknowledgement comes first\n\
 take ACK\n\
 > fault 1\n\
-output 505249202a20485454502f322e300d0a0d0a534d0d0a0d0a00000c04000000000000020000000000060000400000000807\n\
-more 00*12 01\n\
+output PRE OWN_CLIENT 00000807 00*12 01\n\
 wrote 62\n\
-# h2 saw: RemoteSettingsChanged; ConnectionTerminated 1 last 0\n\
 server by chance, seed 0\n\
-output 00000c040000000000000300000064000600004000\n\
+output OWN_SERVER\n\
 wrote 3\n\
-take PRE\n\
-take 00002a04000000000000010000100000020000000100040000ffff000500004000000800000000000300000064000600010000\n\
+take PRE H2_CLIENT\n\
 output 040000000000000300000064000600004000000000040100000000\n\
 wrote 27\n\
-take ACK\n\
-take 00000806000000000068f4e2851f072fcc\n\
+take ACK 00000806000000000068f4e2851f072fcc\n\
 output 00000806010000000068f4e2851f072fcc\n\
 wrote 17\n\
 take 000006040000000000000400000000\n\
-output 000000040100000000\n\
+output ACK\n\
 wrote 9\n\
 take 0000130104000000014287bdab4e9c17b7ff4188081702e15ddb8f03\n\
 > opened 1 open 99 :method=CONNECT,:authority=10.0.1.7:80\n\
@@ -1921,8 +1759,7 @@ status 1 200\n\
 output 0000020104000000012088\n\
 wrote 3\n\
 end 1\n\
-take 00000806000000000057aada1f334a7017\n\
-take 00000b010400000003bf4188081702ecaeedc781\n\
+take 00000806000000000057aada1f334a7017 00000b010400000003bf4188081702ecaeedc781\n\
 > opened 3 open 99 :method=CONNECT,:authority=10.0.3.7:80\n\
 status 3 400 end\n\
 output 010400000001208800000000010000000100000806010000000057aada1f334a70170000010105000000038c\n\
@@ -1936,20 +1773,11 @@ take 00000403000000000300000000\n\
 reset 7 8\n\
 output 00000403000000000700000008\n\
 wrote 13\n\
-take 00000408000000000100009c40\n\
-take 00000b010400000009c24188081702efaeedc781\n\
+take 00000408000000000100009c40 00000b010400000009c24188081702efaeedc781\n\
 > opened 9 open 99 :method=CONNECT,:authority=10.0.9.7:80\n\
-# h2 saw: RemoteSettingsChanged; SettingsAcknowledged; PingAckReceived; SettingsAcknowledged; PingAckReceived;\n\
-# ResponseReceived 1 :status=200; DataReceived 1 0; StreamEnded 1; PingAckReceived; ResponseReceived 3 :status=400; StreamEnded 3;\n\
-# StreamReset 7 8\n\
-";
-
-pub const PART_11: &[u8] = b"\
 client by chance, seed 1\n\
-take 00002a04000000000000010000100000020000000000040000ffff000500004000000800000000000300000064000600010000\n\
-take 00000408000000000000000001\n\
-output 505249202a20485454502f322e300d0a0d0a534d0d0a0d0a00000c04000000000000020000000000060000400000000004010000\n\
-more 0000\n\
+take H2_SERVER 00000408000000000000000001\n\
+output PRE OWN_CLIENT ACK\n\
 wrote 13\n\
 take 00000806000000000001e4887534a20f0b\n\
 output 300d0a0d0a534d0d0a0d0a00000c04000000000000020000000000060000400000000004010000000000000806010000000001e4\n\
@@ -1957,8 +1785,7 @@ more 887534a20f0b\n\
 wrote 13\n\
 output 0c04000000000000020000000000060000400000000004010000000000000806010000000001e4887534a20f0b\n\
 wrote 45\n\
-take ACK\n\
-take 000008060000000000335f973daad8619b\n\
+take ACK 000008060000000000335f973daad8619b\n\
 output 000008060100000000335f973daad8619b\n\
 wrote 17\n\
 open 1 10.0.0.0:80\n\
@@ -1972,12 +1799,11 @@ open 5 10.0.0.2:80\n\
 some 1 0 61*6000 41*3000\n\
 end 3\n\
 take 00000408000000000000009c40\n\
-output 0000000401000000000000160104000000050207434f4e4e454354010b31302e302e302e323a3830000000000100000003\n\
+output ACK 0000160104000000050207434f4e4e454354010b31302e302e302e323a3830000000000100000003\n\
 wrote 13\n\
 take 00000501040000000348836c0cff\n\
 > opened 3 open 42 :status=503\n\
-take 00000408000000000300000064\n\
-take 00000403000000000300000008\n\
+take 00000408000000000300000064 00000403000000000300000008\n\
 > reset 3 8\n\
 open 7 10.0.0.3:80 end\n\
 output 04000000050207434f4e4e454354010b31302e302e302e323a38300000160105000000070207434f4e4e454354010b31302e302e\n\
@@ -1991,19 +1817,33 @@ wrote 55\n\
 take 000008060000000000afd7608437816bdd\n\
 output 000008060100000000afd7608437816bdd\n\
 wrote 17\n\
-# h2 saw: RemoteSettingsChanged; SettingsAcknowledged; PingAckReceived; PingAckReceived;\n\
-# RequestReceived 1 :method=CONNECT :authority=10.0.0.0:80; RequestReceived 3 :method=CONNECT :authority=10.0.0.1:80;\n\
-# SettingsAcknowledged; RequestReceived 5 :method=CONNECT :authority=10.0.0.2:80;\n\
-# RequestReceived 7 :method=CONNECT :authority=10.0.0.3:80; StreamEnded 7; PingAckReceived\n\
+";
+
+// server by chance, seed 2: h2 saw RemoteSettingsChanged; SettingsAcknowledged; PingAckReceived; PingAckReceived; SettingsAcknowledged;
+// PingAckReceived; StreamReset 3 5; SettingsAcknowledged; ResponseReceived 1 :status=431; StreamEnded 1; PingAckReceived
+// client by chance, seed 3: h2 saw RemoteSettingsChanged; SettingsAcknowledged; SettingsAcknowledged; SettingsAcknowledged;
+// RequestReceived 1 :method=CONNECT :authority=10.0.0.0:80; RequestReceived 3 :method=CONNECT :authority=10.0.0.1:80; DataReceived 3 1;
+// DataReceived 3 0; StreamEnded 3; RequestReceived 5 :method=CONNECT :authority=10.0.0.2:80; StreamReset 1 7; SettingsAcknowledged;
+// StreamReset 5 7; RequestReceived 7 :method=CONNECT :authority=10.0.0.3:80
+// server by chance, seed 4: h2 saw RemoteSettingsChanged; SettingsAcknowledged; PingAckReceived; ResponseReceived 1 :status=200;
+// ResponseReceived 3 :status=200; DataReceived 3 5; DataReceived 1 9000; StreamReset 3 1; PingAckReceived; StreamReset 1 5;
+// PingAckReceived
+// client by chance, seed 5: h2 saw RemoteSettingsChanged; SettingsAcknowledged; RequestReceived 1 :method=CONNECT :authority=10.0.0.0:80;
+// SettingsAcknowledged; RequestReceived 3 :method=CONNECT :authority=10.0.0.1:80; DataReceived 1 16384; DataReceived 3 2000;
+// SettingsAcknowledged; RequestReceived 5 :method=CONNECT :authority=10.0.0.2:80; DataReceived 5 0; StreamEnded 5
+// server by chance, seed 6: h2 saw RemoteSettingsChanged; SettingsAcknowledged; PingAckReceived; SettingsAcknowledged;
+// ResponseReceived 3 :status=200; PingAckReceived; ResponseReceived 5 :status=431; StreamEnded 5; PingAckReceived; StreamReset 3 1
+// client by chance, seed 7: h2 saw RemoteSettingsChanged; SettingsAcknowledged; RequestReceived 1 :method=CONNECT :authority=10.0.0.0:80;
+// StreamEnded 1; PingAckReceived; SettingsAcknowledged; RequestReceived 3 :method=CONNECT :authority=10.0.0.1:80;
+// RequestReceived 5 :method=CONNECT :authority=10.0.0.2:80; StreamEnded 5; RequestReceived 7 :method=CONNECT :authority=10.0.0.3:80;
+// StreamReset 3 0; DataReceived 7 0; StreamEnded 7; PingAckReceived
+pub const PART_8: &[u8] = b"\
 server by chance, seed 2\n\
-take PRE\n\
-take 00002a04000000000000010000100000020000000100040000ffff000500004000000800000000000300000064000600010000\n\
-take 0000130104000000014287bdab4e9c17b7ff4188081702e15ddb8f03\n\
+take PRE H2_CLIENT 0000130104000000014287bdab4e9c17b7ff4188081702e15ddb8f03\n\
 > opened 1 open 99 :method=CONNECT,:authority=10.0.1.7:80\n\
-output 00000c040000000000000300000064000600004000000000040100000000\n\
+output OWN_SERVER ACK\n\
 wrote 30\n\
-take ACK\n\
-take 00000b010400000003bf4188081702ecaeedc781\n\
+take ACK 00000b010400000003bf4188081702ecaeedc781\n\
 > opened 3 open 99 :method=CONNECT,:authority=10.0.3.7:80\n\
 take 000000000100000003\n\
 > chunk 3\n\
@@ -2011,19 +1851,15 @@ take 000000000100000003\n\
 take 000008060000000000545a78760c5aa658\n\
 output 000008060100000000545a78760c5aa658\n\
 wrote 17\n\
-take 00000408000000000000004000\n\
-take 000008060000000000e452ccec7ffa8eff\n\
-take 00000604000000000000040000ffff\n\
+take 00000408000000000000004000 000008060000000000e452ccec7ffa8eff 00000604000000000000040000ffff\n\
 output 000008060100000000e452ccec7ffa8eff000000040100000000\n\
 wrote 3\n\
-take 00000408000000000000004000\n\
-take 000000000100000001\n\
+take 00000408000000000000004000 000000000100000001\n\
 > chunk 1\n\
 > ended 1\n\
 output 060100000000e452ccec7ffa8eff000000040100000000\n\
 wrote 23\n\
-take 000008060000000000b9b8587f0c2a3a22\n\
-take 00000b010500000005c04188081702edaeedc781\n\
+take 000008060000000000b9b8587f0c2a3a22 00000b010500000005c04188081702edaeedc781\n\
 > opened 5 end 99 :method=CONNECT,:authority=10.0.5.7:80\n\
 output 000008060100000000b9b8587f0c2a3a22\n\
 wrote 17\n\
@@ -2045,16 +1881,11 @@ wrote 31\n\
 take 0000080600000000007e77e325802974b8\n\
 output 0000080601000000007e77e325802974b8\n\
 wrote 17\n\
-# h2 saw: RemoteSettingsChanged; SettingsAcknowledged; PingAckReceived; PingAckReceived; SettingsAcknowledged; PingAckReceived;\n\
-# StreamReset 3 5; SettingsAcknowledged; ResponseReceived 1 :status=431; StreamEnded 1; PingAckReceived\n\
 client by chance, seed 3\n\
-take 00002a04000000000000010000100000020000000000040000ffff000500004000000800000000000300000064000600010000\n\
-take 000006040000000000000400011170\n\
-output 505249202a20485454502f322e300d0a0d0a534d0d0a0d0a00000c04000000000000020000000000060000400000000004010000\n\
-more 0000000000040100000000\n\
+take H2_SERVER 000006040000000000000400011170\n\
+output PRE OWN_CLIENT ACK ACK\n\
 wrote 13\n\
-take 00000604000000000000040000ffff\n\
-take 00000408000000000000000001\n\
+take 00000604000000000000040000ffff 00000408000000000000000001\n\
 output 300d0a0d0a534d0d0a0d0a00000c0400000000000002000000000006000040000000000401000000000000000401000000000000\n\
 more 00040100000000\n\
 wrote 59\n\
@@ -2086,31 +1917,21 @@ output 0000160104000000050207434f4e4e454354010b31302e302e302e323a3830\n\
 wrote 31\n\
 some 5 9000 64*6000 44*3000\n\
 reset 1 7\n\
-take 00000408000000000000009c40\n\
-take 000006040000000000000400000000\n\
+take 00000408000000000000009c40 000006040000000000000400000000\n\
 reset 5 7\n\
 output 0000040300000000010000000700000004010000000000000403000000000500000007\n\
 wrote 35\n\
 open 7 10.0.0.3:80\n\
-take 000001010400000005be\n\
-take 00000408000000000000000064\n\
+take 000001010400000005be 00000408000000000000000064\n\
 output 0000160104000000070207434f4e4e454354010b31302e302e302e333a3830\n\
 wrote 3\n\
 output 0104000000070207434f4e4e454354010b31302e302e302e333a3830\n\
 wrote 28\n\
-# h2 saw: RemoteSettingsChanged; SettingsAcknowledged; SettingsAcknowledged; SettingsAcknowledged;\n\
-# RequestReceived 1 :method=CONNECT :authority=10.0.0.0:80; RequestReceived 3 :method=CONNECT :authority=10.0.0.1:80; DataReceived 3 1;\n\
-# DataReceived 3 0; StreamEnded 3; RequestReceived 5 :method=CONNECT :authority=10.0.0.2:80; StreamReset 1 7; SettingsAcknowledged;\n\
-# StreamReset 5 7; RequestReceived 7 :method=CONNECT :authority=10.0.0.3:80\n\
 server by chance, seed 4\n\
-take PRE\n\
-take 00002a04000000000000010000100000020000000100040000ffff000500004000000800000000000300000064000600010000\n\
-take 000008060000000000220acd941e71b88d\n\
-take 00000408000000000000000001\n\
-output 00000c040000000000000300000064000600004000000000040100000000000008060100000000220acd941e71b88d\n\
+take PRE H2_CLIENT 000008060000000000220acd941e71b88d 00000408000000000000000001\n\
+output OWN_SERVER ACK 000008060100000000220acd941e71b88d\n\
 wrote 47\n\
-take ACK\n\
-take 0000130104000000014287bdab4e9c17b7ff4188081702e15ddb8f03\n\
+take ACK 0000130104000000014287bdab4e9c17b7ff4188081702e15ddb8f03\n\
 > opened 1 open 99 :method=CONNECT,:authority=10.0.1.7:80\n\
 take 000000000100000001\n\
 > chunk 1\n\
@@ -2137,8 +1958,7 @@ some 1 9000 64*6000 44*3000\n\
 take 00000408000000000300000001\n\
 output 002328000000000001 64*6000 44*3000\n\
 wrote 9009\n\
-take 00000408000000000300004000\n\
-take 0000080105000000034084f2b22da7810f\n\
+take 00000408000000000300004000 0000080105000000034084f2b22da7810f\n\
 > broken 3 1\n\
 take 00000806000000000070d7e37fdb6eff60\n\
 output 0000040300000000030000000100000806010000000070d7e37fdb6eff60\n\
@@ -2147,15 +1967,9 @@ reset 1 5\n\
 take 000008060000000000a13bce14fdc62fdc\n\
 output 00000403000000000100000005000008060100000000a13bce14fdc62fdc\n\
 wrote 30\n\
-# h2 saw: RemoteSettingsChanged; SettingsAcknowledged; PingAckReceived; ResponseReceived 1 :status=200; ResponseReceived 3 :status=200;\n\
-# DataReceived 3 5; DataReceived 1 9000; StreamReset 3 1; PingAckReceived; StreamReset 1 5; PingAckReceived\n\
-";
-
-pub const PART_12: &[u8] = b"\
 client by chance, seed 5\n\
-take 00002a04000000000000010000100000020000000000040000ffff000500004000000800000000000300000064000600010000\n\
-output 505249202a20485454502f322e300d0a0d0a534d0d0a0d0a00000c04000000000000020000000000060000400000000004010000\n\
-more 0000\n\
+take H2_SERVER\n\
+output PRE OWN_CLIENT ACK\n\
 wrote 13\n\
 output 300d0a0d0a534d0d0a0d0a00000c040000000000000200000000000600004000000000040100000000\n\
 wrote 41\n\
@@ -2164,7 +1978,7 @@ open 1 10.0.0.0:80\n\
 output 000017010400000001200207434f4e4e454354010b31302e302e302e303a3830\n\
 wrote 32\n\
 take 00000604000000000000040000ffff\n\
-output 000000040100000000\n\
+output ACK\n\
 wrote 9\n\
 open 3 10.0.0.1:80\n\
 output 0000160104000000030207434f4e4e454354010b31302e302e302e313a3830\n\
@@ -2194,26 +2008,19 @@ wrote 9\n\
 take 00000408000000000000000064\n\
 some 1 0\n\
 some 1 0 66*6000 46*3000\n\
-# h2 saw: RemoteSettingsChanged; SettingsAcknowledged; RequestReceived 1 :method=CONNECT :authority=10.0.0.0:80; SettingsAcknowledged;\n\
-# RequestReceived 3 :method=CONNECT :authority=10.0.0.1:80; DataReceived 1 16384; DataReceived 3 2000; SettingsAcknowledged;\n\
-# RequestReceived 5 :method=CONNECT :authority=10.0.0.2:80; DataReceived 5 0; StreamEnded 5\n\
 server by chance, seed 6\n\
-output 00000c040000000000000300000064000600004000\n\
+output OWN_SERVER\n\
 wrote 21\n\
-take PRE\n\
-take 00002a04000000000000010000100000020000000100040000ffff000500004000000800000000000300000064000600010000\n\
-take 000008060000000000f0bfa30b8bfa65d3\n\
-take ACK\n\
-output 000000040100000000000008060100000000f0bfa30b8bfa65d3\n\
+take PRE H2_CLIENT 000008060000000000f0bfa30b8bfa65d3 ACK\n\
+output ACK 000008060100000000f0bfa30b8bfa65d3\n\
 wrote 26\n\
 take 0000130104000000014287bdab4e9c17b7ff4188081702e15ddb8f03\n\
 > opened 1 open 99 :method=CONNECT,:authority=10.0.1.7:80\n\
 take 00000b010400000003bf4188081702ecaeedc781\n\
 > opened 3 open 99 :method=CONNECT,:authority=10.0.3.7:80\n\
-take 00000408000000000000000064\n\
-take 000006040000000000000400011170\n\
+take 00000408000000000000000064 000006040000000000000400011170\n\
 status 3 200\n\
-output 0000000401000000000000020104000000032088\n\
+output ACK 0000020104000000032088\n\
 wrote 20\n\
 take 00000b010400000005c04188081702edaeedc781\n\
 > opened 5 open 99 :method=CONNECT,:authority=10.0.5.7:80\n\
@@ -2223,8 +2030,7 @@ wrote 17\n\
 take 00000b010400000007c14188081702eeaeedc781\n\
 > opened 7 open 99 :method=CONNECT,:authority=10.0.7.7:80\n\
 status 5 431 end\n\
-take 00000806000000000048c1fe9cefa5bb53\n\
-take 0000080105000000034084f2b22da7810f\n\
+take 00000806000000000048c1fe9cefa5bb53 0000080105000000034084f2b22da7810f\n\
 > broken 3 1\n\
 take 00000408000000000700000001\n\
 output 000005010500000005080334333100000806010000000048c1fe9cefa5bb5300000403000000000300000001\n\
@@ -2233,12 +2039,9 @@ take 000000000000000005\n\
 > chunk 5\n\
 take 000128000800000001ff 62*27 42*13 00*255\n\
 > chunk 1 62*27 42*13\n\
-# h2 saw: RemoteSettingsChanged; SettingsAcknowledged; PingAckReceived; SettingsAcknowledged; ResponseReceived 3 :status=200;\n\
-# PingAckReceived; ResponseReceived 5 :status=431; StreamEnded 5; PingAckReceived; StreamReset 3 1\n\
 client by chance, seed 7\n\
-take 00002a04000000000000010000100000020000000000040000ffff000500004000000800000000000300000064000600010000\n\
-output 505249202a20485454502f322e300d0a0d0a534d0d0a0d0a00000c04000000000000020000000000060000400000000004010000\n\
-more 0000\n\
+take H2_SERVER\n\
+output PRE OWN_CLIENT ACK\n\
 wrote 54\n\
 take ACK\n\
 open 1 10.0.0.0:80 end\n\
@@ -2253,7 +2056,7 @@ wrote 3\n\
 output 000000d91e3f721fcb1971\n\
 wrote 11\n\
 take 000006040000000000000400011170\n\
-output 000000040100000000\n\
+output ACK\n\
 wrote 3\n\
 open 3 10.0.0.1:80\n\
 output 0401000000000000160104000000030207434f4e4e454354010b31302e302e302e313a3830\n\
@@ -2277,29 +2080,43 @@ take 00000501040000000748836c0cff\n\
 take 000008060000000000226ae15338ae1a34\n\
 output 00000403000000000300000000000000000100000007000008060100000000226ae15338ae1a34\n\
 wrote 39\n\
-# h2 saw: RemoteSettingsChanged; SettingsAcknowledged; RequestReceived 1 :method=CONNECT :authority=10.0.0.0:80; StreamEnded 1;\n\
-# PingAckReceived; SettingsAcknowledged; RequestReceived 3 :method=CONNECT :authority=10.0.0.1:80;\n\
-# RequestReceived 5 :method=CONNECT :authority=10.0.0.2:80; StreamEnded 5; RequestReceived 7 :method=CONNECT :authority=10.0.0.3:80;\n\
-# StreamReset 3 0; DataReceived 7 0; StreamEnded 7; PingAckReceived\n\
+";
+
+// server by chance, seed 8: h2 saw RemoteSettingsChanged; SettingsAcknowledged; SettingsAcknowledged; PingAckReceived; PingAckReceived;
+// SettingsAcknowledged; PingAckReceived; StreamReset 1 7; ResponseReceived 3 :status=200; PingAckReceived; SettingsAcknowledged
+// client by chance, seed 9: h2 saw RemoteSettingsChanged; SettingsAcknowledged; SettingsAcknowledged;
+// RequestReceived 1 :method=CONNECT :authority=10.0.0.0:80; PingAckReceived; DataReceived 1 10; DataReceived 1 0; StreamEnded 1;
+// RequestReceived 3 :method=CONNECT :authority=10.0.0.1:80; DataReceived 3 0; StreamEnded 3;
+// RequestReceived 5 :method=CONNECT :authority=10.0.0.2:80; PingAckReceived; RequestReceived 7 :method=CONNECT :authority=10.0.0.3:80;
+// SettingsAcknowledged
+// server by chance, seed 10: h2 saw RemoteSettingsChanged; SettingsAcknowledged; PingAckReceived; ResponseReceived 1 :status=200;
+// SettingsAcknowledged; PingAckReceived; DataReceived 1 3000; SettingsAcknowledged; PingAckReceived; SettingsAcknowledged;
+// SettingsAcknowledged
+// client by chance, seed 11: h2 saw RemoteSettingsChanged; SettingsAcknowledged; RequestReceived 1 :method=CONNECT :authority=10.0.0.0:80;
+// RequestReceived 3 :method=CONNECT :authority=10.0.0.1:80; DataReceived 1 1; DataReceived 3 0; StreamEnded 3; PingAckReceived;
+// RequestReceived 5 :method=CONNECT :authority=10.0.0.2:80; PingAckReceived; DataReceived 1 0; StreamEnded 1; PingAckReceived;
+// RequestReceived 7 :method=CONNECT :authority=10.0.0.3:80; DataReceived 7 0; StreamEnded 7;
+// RequestReceived 9 :method=CONNECT :authority=10.0.0.4:80; DataReceived 9 0; StreamEnded 9; SettingsAcknowledged; DataReceived 5 0;
+// StreamEnded 5
+// server by chance, seed 12: h2 saw RemoteSettingsChanged; SettingsAcknowledged; PingAckReceived; StreamReset 1 5; SettingsAcknowledged
+// client by chance, seed 13: h2 saw RemoteSettingsChanged; SettingsAcknowledged; RequestReceived 1 :method=CONNECT :authority=10.0.0.0:80;
+// StreamReset 1 7; SettingsAcknowledged; SettingsAcknowledged; RequestReceived 3 :method=CONNECT :authority=10.0.0.1:80; PingAckReceived
+// server by chance, seed 14: h2 saw RemoteSettingsChanged; SettingsAcknowledged; SettingsAcknowledged; StreamReset 1 0;
+// ResponseReceived 3 :status=200; DataReceived 3 0; StreamEnded 3
+pub const PART_9: &[u8] = b"\
 server by chance, seed 8\n\
-take PRE\n\
-take 00002a04000000000000010000100000020000000100040000ffff000500004000000800000000000300000064000600010000\n\
-take 000006040000000000000400000000\n\
-output 00000c040000000000000300000064000600004000000000040100000000000000040100000000\n\
+take PRE H2_CLIENT 000006040000000000000400000000\n\
+output OWN_SERVER ACK ACK\n\
 wrote 13\n\
 output 0064000600004000000000040100000000000000040100000000\n\
 wrote 26\n\
-take 00000408000000000000000064\n\
-take 000008060000000000ce2df8770a88d0f2\n\
-take ACK\n\
-take 000008060000000000482013fa634be9e3\n\
+take 00000408000000000000000064 000008060000000000ce2df8770a88d0f2 ACK 000008060000000000482013fa634be9e3\n\
 output 000008060100000000ce2df8770a88d0f2000008060100000000482013fa634be9e3\n\
 wrote 13\n\
 output 0a88d0f2000008060100000000482013fa634be9e3\n\
 wrote 21\n\
-take 000006040000000000000400000000\n\
-take 00000408000000000000004000\n\
-output 000000040100000000\n\
+take 000006040000000000000400000000 00000408000000000000004000\n\
+output ACK\n\
 wrote 3\n\
 take 0000130104000000014287bdab4e9c17b7ff4188081702e15ddb8f03\n\
 > opened 1 open 99 :method=CONNECT,:authority=10.0.1.7:80\n\
@@ -2307,8 +2124,7 @@ take 000008060000000000ca3b550d6752993b\n\
 reset 1 7\n\
 output 040100000000000008060100000000ca3b550d6752993b00000403000000000100000007\n\
 wrote 36\n\
-take 00000408000000000000009c40\n\
-take 00000b010400000003bf4188081702ecaeedc781\n\
+take 00000408000000000000009c40 00000b010400000003bf4188081702ecaeedc781\n\
 > opened 3 open 99 :method=CONNECT,:authority=10.0.3.7:80\n\
 take 0007d100080000000300 61*1334 41*666\n\
 > chunk 3 61*1334 41*666\n\
@@ -2325,22 +2141,14 @@ some 3 0 62*10923 42*5461\n\
 take 00000b010400000007c14188081702eeaeedc781\n\
 > opened 7 open 99 :method=CONNECT,:authority=10.0.7.7:80\n\
 take 00000604000000000000040000000a\n\
-output 000000040100000000\n\
+output ACK\n\
 wrote 9\n\
-# h2 saw: RemoteSettingsChanged; SettingsAcknowledged; SettingsAcknowledged; PingAckReceived; PingAckReceived; SettingsAcknowledged;\n\
-# PingAckReceived; StreamReset 1 7; ResponseReceived 3 :status=200; PingAckReceived; SettingsAcknowledged\n\
-";
-
-pub const PART_13: &[u8] = b"\
 client by chance, seed 9\n\
-take 00002a04000000000000010000100000020000000000040000ffff000500004000000800000000000300000064000600010000\n\
-output 505249202a20485454502f322e300d0a0d0a534d0d0a0d0a00000c04000000000000020000000000060000400000000004010000\n\
-more 0000\n\
+take H2_SERVER\n\
+output PRE OWN_CLIENT ACK\n\
 wrote 54\n\
-take ACK\n\
-take 00000408000000000000009c40\n\
-take 00000604000000000000040000000a\n\
-output 000000040100000000\n\
+take ACK 00000408000000000000009c40 00000604000000000000040000000a\n\
+output ACK\n\
 wrote 9\n\
 open 1 10.0.0.0:80\n\
 output 000017010400000001200207434f4e4e454354010b31302e302e302e303a3830\n\
@@ -2372,22 +2180,14 @@ output 0000160104000000070207434f4e4e454354010b31302e302e302e333a383000000004010
 wrote 3\n\
 output 0104000000070207434f4e4e454354010b31302e302e302e333a3830000000040100000000\n\
 wrote 37\n\
-# h2 saw: RemoteSettingsChanged; SettingsAcknowledged; SettingsAcknowledged; RequestReceived 1 :method=CONNECT :authority=10.0.0.0:80;\n\
-# PingAckReceived; DataReceived 1 10; DataReceived 1 0; StreamEnded 1; RequestReceived 3 :method=CONNECT :authority=10.0.0.1:80;\n\
-# DataReceived 3 0; StreamEnded 3; RequestReceived 5 :method=CONNECT :authority=10.0.0.2:80; PingAckReceived;\n\
-# RequestReceived 7 :method=CONNECT :authority=10.0.0.3:80; SettingsAcknowledged\n\
 server by chance, seed 10\n\
-take PRE\n\
-take 00002a04000000000000010000100000020000000100040000ffff000500004000000800000000000300000064000600010000\n\
-take 0000130104000000014287bdab4e9c17b7ff4188081702e15ddb8f03\n\
+take PRE H2_CLIENT 0000130104000000014287bdab4e9c17b7ff4188081702e15ddb8f03\n\
 > opened 1 open 99 :method=CONNECT,:authority=10.0.1.7:80\n\
 take 0000080600000000008e5211faa7267fb8\n\
 status 1 200\n\
-take 000006040000000000000400000bb8\n\
-take 000008060000000000a65072d37a1210fe\n\
-take 00000408000000000000000001\n\
-output 00000c0400000000000003000000640006000040000000000401000000000000080601000000008e5211faa7267fb80000020104\n\
-more 000000012088000000040100000000000008060100000000a65072d37a1210fe\n\
+take 000006040000000000000400000bb8 000008060000000000a65072d37a1210fe 00000408000000000000000001\n\
+output OWN_SERVER ACK 0000080601000000008e5211faa7267fb800000201040000000120880000000401000000000000080601000000\n\
+more 00a65072d37a1210fe\n\
 wrote 84\n\
 take ACK\n\
 some 1 3000 61*10923 41*5461\n\
@@ -2407,18 +2207,12 @@ output 000008060100000000c6fa54e132d41201\n\
 wrote 3\n\
 output 060100000000c6fa54e132d41201\n\
 wrote 14\n\
-take 00000408000000000000009c40\n\
-take 000006040000000000000400011170\n\
-take 00000408000000000000000001\n\
-take 000006040000000000000400011170\n\
-output 000000040100000000000000040100000000\n\
+take 00000408000000000000009c40 000006040000000000000400011170 00000408000000000000000001 000006040000000000000400011170\n\
+output ACK ACK\n\
 wrote 18\n\
-# h2 saw: RemoteSettingsChanged; SettingsAcknowledged; PingAckReceived; ResponseReceived 1 :status=200; SettingsAcknowledged;\n\
-# PingAckReceived; DataReceived 1 3000; SettingsAcknowledged; PingAckReceived; SettingsAcknowledged; SettingsAcknowledged\n\
 client by chance, seed 11\n\
-take 00002a04000000000000010000100000020000000000040000ffff000500004000000800000000000300000064000600010000\n\
-output 505249202a20485454502f322e300d0a0d0a534d0d0a0d0a00000c04000000000000020000000000060000400000000004010000\n\
-more 0000\n\
+take H2_SERVER\n\
+output PRE OWN_CLIENT ACK\n\
 wrote 54\n\
 take ACK\n\
 open 1 10.0.0.0:80\n\
@@ -2435,14 +2229,12 @@ wrote 36\n\
 open 5 10.0.0.2:80\n\
 output 0000160104000000050207434f4e4e454354010b31302e302e302e323a3830\n\
 wrote 31\n\
-take 00000806000000000007d13c447e33051e\n\
-take 00000501040000000348836c0cff\n\
+take 00000806000000000007d13c447e33051e 00000501040000000348836c0cff\n\
 > opened 3 open 42 :status=503\n\
 output 00000806010000000007d13c447e33051e\n\
 wrote 13\n\
 end 1\n\
-take 00000408000000000000000064\n\
-take 0000080600000000009b0a6b5fc933154a\n\
+take 00000408000000000000000064 0000080600000000009b0a6b5fc933154a\n\
 open 7 10.0.0.3:80\n\
 end 7\n\
 take 00000101040000000188\n\
@@ -2470,35 +2262,24 @@ take 0000010104000000098d\n\
 > opened 9 open 42 :status=404\n\
 take 00000604000000000000040000000a\n\
 end 5\n\
-take 00000408000000000700004000\n\
-take 00000c01050000000140889acac8b21234da8f8107\n\
+take 00000408000000000700004000 00000c01050000000140889acac8b21234da8f8107\n\
 > opened 1 end 44 grpc-status=0\n\
 take 00000403000000000900000008\n\
 > reset 9 8\n\
-output 000000040100000000000000000100000005\n\
+output ACK 000000000100000005\n\
 wrote 3\n\
 output 040100000000000000000100000005\n\
 wrote 15\n\
-# h2 saw: RemoteSettingsChanged; SettingsAcknowledged; RequestReceived 1 :method=CONNECT :authority=10.0.0.0:80;\n\
-# RequestReceived 3 :method=CONNECT :authority=10.0.0.1:80; DataReceived 1 1; DataReceived 3 0; StreamEnded 3; PingAckReceived;\n\
-# RequestReceived 5 :method=CONNECT :authority=10.0.0.2:80; PingAckReceived; DataReceived 1 0; StreamEnded 1; PingAckReceived;\n\
-# RequestReceived 7 :method=CONNECT :authority=10.0.0.3:80; DataReceived 7 0; StreamEnded 7;\n\
-# RequestReceived 9 :method=CONNECT :authority=10.0.0.4:80; DataReceived 9 0; StreamEnded 9; SettingsAcknowledged; DataReceived 5 0;\n\
-# StreamEnded 5\n\
 server by chance, seed 12\n\
-take PRE\n\
-take 00002a04000000000000010000100000020000000100040000ffff000500004000000800000000000300000064000600010000\n\
-take 00000408000000000000009c40\n\
-output 00000c040000000000000300000064000600004000000000040100000000\n\
+take PRE H2_CLIENT 00000408000000000000009c40\n\
+output OWN_SERVER ACK\n\
 wrote 3\n\
 output 040000000000000300000064000600004000000000040100000000\n\
 wrote 27\n\
-take ACK\n\
-take 000008060000000000a0531a572acdd6f0\n\
+take ACK 000008060000000000a0531a572acdd6f0\n\
 output 000008060100000000a0531a572acdd6f0\n\
 wrote 17\n\
-take 00000408000000000000000001\n\
-take 0000130104000000014287bdab4e9c17b7ff4188081702e15ddb8f03\n\
+take 00000408000000000000000001 0000130104000000014287bdab4e9c17b7ff4188081702e15ddb8f03\n\
 > opened 1 open 99 :method=CONNECT,:authority=10.0.1.7:80\n\
 take 004000000000000001 61*10923 41*5461\n\
 > chunk 1 61*10923 41*5461\n\
@@ -2507,33 +2288,25 @@ take 00000b010400000003bf4188081702ecaeedc781\n\
 > opened 3 open 99 :method=CONNECT,:authority=10.0.3.7:80\n\
 output 00000403000000000100000005\n\
 wrote 13\n\
-take 000006040000000000000400000bb8\n\
-take 00000403000000000300000008\n\
+take 000006040000000000000400000bb8 00000403000000000300000008\n\
 > reset 3 8\n\
-take 00000408000000000000000001\n\
-take 00000b010400000005c04188081702edaeedc781\n\
+take 00000408000000000000000001 00000b010400000005c04188081702edaeedc781\n\
 > opened 5 open 99 :method=CONNECT,:authority=10.0.5.7:80\n\
-output 000000040100000000\n\
+output ACK\n\
 wrote 3\n\
 output 040100000000\n\
 wrote 6\n\
 take 00000408000000000500000064\n\
-# h2 saw: RemoteSettingsChanged; SettingsAcknowledged; PingAckReceived; StreamReset 1 5; SettingsAcknowledged\n\
 client by chance, seed 13\n\
-take 00002a04000000000000010000100000020000000000040000ffff000500004000000800000000000300000064000600010000\n\
-take 00000408000000000000000064\n\
-take 00000408000000000000000001\n\
+take H2_SERVER 00000408000000000000000064 00000408000000000000000001\n\
 open 1 10.0.0.0:80\n\
 reset 1 7\n\
 take 00000408000000000000009c40\n\
-output 505249202a20485454502f322e300d0a0d0a534d0d0a0d0a00000c04000000000000020000000000060000400000000004010000\n\
-more 0000000017010400000001200207434f4e4e454354010b31302e302e302e303a383000000403000000000100000007\n\
+output PRE OWN_CLIENT ACK 000017010400000001200207434f4e4e454354010b31302e302e302e303a38300000040300000000010000\n\
+more 0007\n\
 wrote 99\n\
-take ACK\n\
-take 00000408000000000000000064\n\
-take 00000604000000000000040000000a\n\
-take 000006040000000000000400000bb8\n\
-output 000000040100000000000000040100000000\n\
+take ACK 00000408000000000000000064 00000604000000000000040000000a 000006040000000000000400000bb8\n\
+output ACK ACK\n\
 wrote 18\n\
 take 00000408000000000000000064\n\
 open 3 10.0.0.1:80\n\
@@ -2542,21 +2315,13 @@ wrote 3\n\
 take 0000080600000000009f3ed09a8927f0bb\n\
 output 0104000000030207434f4e4e454354010b31302e302e302e313a38300000080601000000009f3ed09a8927f0bb\n\
 wrote 45\n\
-# h2 saw: RemoteSettingsChanged; SettingsAcknowledged; RequestReceived 1 :method=CONNECT :authority=10.0.0.0:80; StreamReset 1 7;\n\
-# SettingsAcknowledged; SettingsAcknowledged; RequestReceived 3 :method=CONNECT :authority=10.0.0.1:80; PingAckReceived\n\
-";
-
-pub const PART_14: &[u8] = b"\
 server by chance, seed 14\n\
-output 00000c040000000000000300000064000600004000\n\
+output OWN_SERVER\n\
 wrote 3\n\
 output 040000000000000300000064000600004000\n\
 wrote 18\n\
-take PRE\n\
-take 00002a04000000000000010000100000020000000100040000ffff000500004000000800000000000300000064000600010000\n\
-take ACK\n\
-take 00000408000000000000000064\n\
-output 000000040100000000\n\
+take PRE H2_CLIENT ACK 00000408000000000000000064\n\
+output ACK\n\
 wrote 9\n\
 take 0000130104000000014287bdab4e9c17b7ff4188081702e15ddb8f03\n\
 > opened 1 open 99 :method=CONNECT,:authority=10.0.1.7:80\n\
@@ -2566,10 +2331,9 @@ take 000000000100000001\n\
 take 000006040000000000000400011170\n\
 reset 1 0\n\
 take 00000408000000000000000001\n\
-output 00000004010000000000000403000000000100000000\n\
+output ACK 00000403000000000100000000\n\
 wrote 22\n\
-take 00000408000000000000004000\n\
-take 00000b010400000003bf4188081702ecaeedc781\n\
+take 00000408000000000000004000 00000b010400000003bf4188081702ecaeedc781\n\
 > opened 3 open 99 :method=CONNECT,:authority=10.0.3.7:80\n\
 status 3 200\n\
 output 0000020104000000032088\n\
@@ -2578,14 +2342,32 @@ end 3\n\
 output 000000000100000003\n\
 wrote 9\n\
 take 00000408000000000000009c40\n\
-# h2 saw: RemoteSettingsChanged; SettingsAcknowledged; SettingsAcknowledged; StreamReset 1 0; ResponseReceived 3 :status=200;\n\
-# DataReceived 3 0; StreamEnded 3\n\
+";
+
+// client by chance, seed 15: h2 saw RemoteSettingsChanged; SettingsAcknowledged; SettingsAcknowledged;
+// RequestReceived 1 :method=CONNECT :authority=10.0.0.0:80; StreamEnded 1; PingAckReceived; PingAckReceived;
+// RequestReceived 3 :method=CONNECT :authority=10.0.0.1:80; StreamEnded 3; PingAckReceived; PingAckReceived;
+// RequestReceived 5 :method=CONNECT :authority=10.0.0.2:80; RequestReceived 7 :method=CONNECT :authority=10.0.0.3:80; PingAckReceived;
+// DataReceived 7 0; StreamEnded 7
+// server by chance, seed 16: h2 saw RemoteSettingsChanged; SettingsAcknowledged; PingAckReceived; SettingsAcknowledged;
+// ResponseReceived 1 :status=400; StreamEnded 1; ResponseReceived 3 :status=200; PingAckReceived; ResponseReceived 5 :status=200;
+// StreamReset 5 8; ResponseReceived 9 :status=503; StreamEnded 9; ResponseReceived 7 :status=400; StreamEnded 7; DataReceived 3 1;
+// DataReceived 3 0; StreamEnded 3
+// client by chance, seed 17: h2 saw RemoteSettingsChanged; SettingsAcknowledged; RequestReceived 1 :method=CONNECT :authority=10.0.0.0:80;
+// DataReceived 1 0; StreamEnded 1; RequestReceived 3 :method=CONNECT :authority=10.0.0.1:80; DataReceived 3 16384;
+// RequestReceived 5 :method=CONNECT :authority=10.0.0.2:80; PingAckReceived; RequestReceived 7 :method=CONNECT :authority=10.0.0.3:80;
+// RequestReceived 9 :method=CONNECT :authority=10.0.0.4:80; StreamReset 7 7; RequestReceived 11 :method=CONNECT :authority=10.0.0.5:80
+// server by chance, seed 18: h2 saw RemoteSettingsChanged; SettingsAcknowledged; PingAckReceived; ResponseReceived 1 :status=200;
+// ResponseReceived 3 :status=400; StreamEnded 3; DataReceived 1 0; StreamEnded 1; ResponseReceived 5 :status=200
+// client by chance, seed 19: h2 saw RemoteSettingsChanged; SettingsAcknowledged; RequestReceived 1 :method=CONNECT :authority=10.0.0.0:80;
+// StreamReset 1 7; RequestReceived 3 :method=CONNECT :authority=10.0.0.1:80; RequestReceived 5 :method=CONNECT :authority=10.0.0.2:80;
+// RequestReceived 7 :method=CONNECT :authority=10.0.0.3:80; StreamEnded 7; SettingsAcknowledged; SettingsAcknowledged;
+// RequestReceived 9 :method=CONNECT :authority=10.0.0.4:80
+pub const PART_10: &[u8] = b"\
 client by chance, seed 15\n\
-take 00002a04000000000000010000100000020000000000040000ffff000500004000000800000000000300000064000600010000\n\
-take 00000604000000000000040000000a\n\
+take H2_SERVER 00000604000000000000040000000a\n\
 open 1 10.0.0.0:80 end\n\
-output 505249202a20485454502f322e300d0a0d0a534d0d0a0d0a00000c04000000000000020000000000060000400000000004010000\n\
-more 0000000000040100000000000017010500000001200207434f4e4e454354010b31302e302e302e303a3830\n\
+output PRE OWN_CLIENT ACK ACK 000017010500000001200207434f4e4e454354010b31302e302e302e303a3830\n\
 wrote 3\n\
 take 000008060000000000d776e9d6fa28ecb8\n\
 output 202a20485454502f322e300d0a0d0a534d0d0a0d0a00000c04000000000000020000000000060000400000000004010000000000\n\
@@ -2600,9 +2382,7 @@ wrote 113\n\
 open 3 10.0.0.1:80 end\n\
 output 0000160105000000030207434f4e4e454354010b31302e302e302e313a3830\n\
 wrote 31\n\
-take ACK\n\
-take 0000080600000000009e9f54a2c6f3ace2\n\
-take 00000806000000000007852f932015e61e\n\
+take ACK 0000080600000000009e9f54a2c6f3ace2 00000806000000000007852f932015e61e\n\
 open 5 10.0.0.2:80\n\
 open 7 10.0.0.3:80\n\
 take 00000101040000000388\n\
@@ -2622,23 +2402,14 @@ take 000001010500000007be\n\
 > opened 7 end 44 grpc-status=0\n\
 output 000000000100000007\n\
 wrote 9\n\
-# h2 saw: RemoteSettingsChanged; SettingsAcknowledged; SettingsAcknowledged; RequestReceived 1 :method=CONNECT :authority=10.0.0.0:80;\n\
-# StreamEnded 1; PingAckReceived; PingAckReceived; RequestReceived 3 :method=CONNECT :authority=10.0.0.1:80; StreamEnded 3;\n\
-# PingAckReceived; PingAckReceived; RequestReceived 5 :method=CONNECT :authority=10.0.0.2:80;\n\
-# RequestReceived 7 :method=CONNECT :authority=10.0.0.3:80; PingAckReceived; DataReceived 7 0; StreamEnded 7\n\
 server by chance, seed 16\n\
-take PRE\n\
-take 00002a04000000000000010000100000020000000100040000ffff000500004000000800000000000300000064000600010000\n\
-take 000008060000000000d184797105979aab\n\
-take 0000130105000000014287bdab4e9c17b7ff4188081702e15ddb8f03\n\
+take PRE H2_CLIENT 000008060000000000d184797105979aab 0000130105000000014287bdab4e9c17b7ff4188081702e15ddb8f03\n\
 > opened 1 end 99 :method=CONNECT,:authority=10.0.1.7:80\n\
 take 000006040000000000000400000bb8\n\
-output 00000c040000000000000300000064000600004000000000040100000000000008060100000000d184797105979aab0000000401\n\
-more 00000000\n\
+output OWN_SERVER ACK 000008060100000000d184797105979aab000000040100000000\n\
 wrote 56\n\
 status 1 400 end\n\
-take ACK\n\
-take 00000b010400000003bf4188081702ecaeedc781\n\
+take ACK 00000b010400000003bf4188081702ecaeedc781\n\
 > opened 3 open 99 :method=CONNECT,:authority=10.0.3.7:80\n\
 output 000002010500000001208c\n\
 wrote 11\n\
@@ -2682,16 +2453,11 @@ output 00000100000000000364000000000100000003\n\
 wrote 13\n\
 output 000100000003\n\
 wrote 6\n\
-# h2 saw: RemoteSettingsChanged; SettingsAcknowledged; PingAckReceived; SettingsAcknowledged; ResponseReceived 1 :status=400;\n\
-# StreamEnded 1; ResponseReceived 3 :status=200; PingAckReceived; ResponseReceived 5 :status=200; StreamReset 5 8;\n\
-# ResponseReceived 9 :status=503; StreamEnded 9; ResponseReceived 7 :status=400; StreamEnded 7; DataReceived 3 1; DataReceived 3 0;\n\
-# StreamEnded 3\n\
 client by chance, seed 17\n\
-take 00002a04000000000000010000100000020000000000040000ffff000500004000000800000000000300000064000600010000\n\
+take H2_SERVER\n\
 open 1 10.0.0.0:80\n\
 end 1\n\
-output 505249202a20485454502f322e300d0a0d0a534d0d0a0d0a00000c04000000000000020000000000060000400000000004010000\n\
-more 0000000017010400000001200207434f4e4e454354010b31302e302e302e303a3830000000000100000001\n\
+output PRE OWN_CLIENT ACK 000017010400000001200207434f4e4e454354010b31302e302e302e303a3830000000000100000001\n\
 wrote 13\n\
 output 300d0a0d0a534d0d0a0d0a00000c0400000000000002000000000006000040000000000401000000000000170104000000012002\n\
 more 07434f4e4e454354010b31302e302e302e303a3830000000000100000001\n\
@@ -2708,10 +2474,7 @@ wrote 15693\n\
 take 0000010104000000038d\n\
 > opened 3 open 42 :status=404\n\
 open 5 10.0.0.2:80\n\
-take 0000080600000000006d7fb81d88208d62\n\
-take 00000408000000000000000064\n\
-take 00000408000000000000004000\n\
-take 00000403000000000300000008\n\
+take 0000080600000000006d7fb81d88208d62 00000408000000000000000064 00000408000000000000004000 00000403000000000300000008\n\
 > reset 3 8\n\
 output 0000160104000000050207434f4e4e454354010b31302e302e302e323a38300000080601000000006d7fb81d88208d62\n\
 wrote 3\n\
@@ -2741,31 +2504,18 @@ take 00000101040000000588\n\
 > opened 5 open 42 :status=200\n\
 output 0000040300000000070000000700001601040000000b0207434f4e4e454354010b31302e302e302e353a3830\n\
 wrote 44\n\
-# h2 saw: RemoteSettingsChanged; SettingsAcknowledged; RequestReceived 1 :method=CONNECT :authority=10.0.0.0:80; DataReceived 1 0;\n\
-# StreamEnded 1; RequestReceived 3 :method=CONNECT :authority=10.0.0.1:80; DataReceived 3 16384;\n\
-# RequestReceived 5 :method=CONNECT :authority=10.0.0.2:80; PingAckReceived; RequestReceived 7 :method=CONNECT :authority=10.0.0.3:80;\n\
-# RequestReceived 9 :method=CONNECT :authority=10.0.0.4:80; StreamReset 7 7; RequestReceived 11 :method=CONNECT :authority=10.0.0.5:80\n\
-";
-
-pub const PART_15: &[u8] = b"\
 server by chance, seed 18\n\
-take PRE\n\
-take 00002a04000000000000010000100000020000000100040000ffff000500004000000800000000000300000064000600010000\n\
-take 00000408000000000000009c40\n\
-take 0000130104000000014287bdab4e9c17b7ff4188081702e15ddb8f03\n\
+take PRE H2_CLIENT 00000408000000000000009c40 0000130104000000014287bdab4e9c17b7ff4188081702e15ddb8f03\n\
 > opened 1 open 99 :method=CONNECT,:authority=10.0.1.7:80\n\
-output 00000c040000000000000300000064000600004000000000040100000000\n\
+output OWN_SERVER ACK\n\
 wrote 3\n\
 output 040000000000000300000064000600004000000000040100000000\n\
 wrote 27\n\
-take ACK\n\
-take 000028000000000001 61*27 41*13\n\
+take ACK 000028000000000001 61*27 41*13\n\
 > chunk 1 61*27 41*13\n\
-take 00000408000000000000000064\n\
-take 002328000000000001 62*6000 42*3000\n\
+take 00000408000000000000000064 002328000000000001 62*6000 42*3000\n\
 > chunk 1 62*6000 42*3000\n\
-take 000008060000000000f5336784adf02dfb\n\
-take 004000000000000001 63*10923 43*5461\n\
+take 000008060000000000f5336784adf02dfb 004000000000000001 63*10923 43*5461\n\
 > chunk 1 63*10923 43*5461\n\
 output 000008060100000000f5336784adf02dfb\n\
 wrote 3\n\
@@ -2785,11 +2535,9 @@ status 3 400 end\n\
 take 00000b010400000005c04188081702edaeedc781\n\
 > opened 5 open 99 :method=CONNECT,:authority=10.0.5.7:80\n\
 end 1\n\
-take 00000408000000000500004000\n\
-take 000000000000000005\n\
+take 00000408000000000500004000 000000000000000005\n\
 > chunk 5\n\
-take 00000408000000000000000064\n\
-take 00012c000000000001 66*200 46*100\n\
+take 00000408000000000000000064 00012c000000000001 66*200 46*100\n\
 > chunk 1 66*200 46*100\n\
 output 0000010105000000038c000000000100000001\n\
 wrote 3\n\
@@ -2798,20 +2546,16 @@ some 5 0\n\
 output 0105000000038c00000000010000000100000101040000000588\n\
 wrote 26\n\
 credit 1 12864\n\
-take 00000408000000000500000001\n\
-take 0000050000000000056868686868\n\
+take 00000408000000000500000001 0000050000000000056868686868\n\
 > chunk 5 6868686868\n\
-# h2 saw: RemoteSettingsChanged; SettingsAcknowledged; PingAckReceived; ResponseReceived 1 :status=200; ResponseReceived 3 :status=400;\n\
-# StreamEnded 3; DataReceived 1 0; StreamEnded 1; ResponseReceived 5 :status=200\n\
 client by chance, seed 19\n\
-take 00002a04000000000000010000100000020000000000040000ffff000500004000000800000000000300000064000600010000\n\
+take H2_SERVER\n\
 open 1 10.0.0.0:80\n\
 reset 1 7\n\
-output 505249202a20485454502f322e300d0a0d0a534d0d0a0d0a00000c04000000000000020000000000060000400000000004010000\n\
-more 0000000017010400000001200207434f4e4e454354010b31302e302e302e303a383000000403000000000100000007\n\
+output PRE OWN_CLIENT ACK 000017010400000001200207434f4e4e454354010b31302e302e302e303a38300000040300000000010000\n\
+more 0007\n\
 wrote 99\n\
-take ACK\n\
-take 00000408000000000000000001\n\
+take ACK 00000408000000000000000001\n\
 open 3 10.0.0.1:80\n\
 output 0000160104000000030207434f4e4e454354010b31302e302e302e313a3830\n\
 wrote 31\n\
@@ -2832,17 +2576,24 @@ take 00000c01050000000340889acac8b21234da8f8107\n\
 take 00000604000000000000040000000a\n\
 open 9 10.0.0.4:80\n\
 some 9 0 61*10923 41*5461\n\
-output 0000000401000000000000160104000000090207434f4e4e454354010b31302e302e302e343a3830\n\
+output ACK 0000160104000000090207434f4e4e454354010b31302e302e302e343a3830\n\
 wrote 40\n\
-# h2 saw: RemoteSettingsChanged; SettingsAcknowledged; RequestReceived 1 :method=CONNECT :authority=10.0.0.0:80; StreamReset 1 7;\n\
-# RequestReceived 3 :method=CONNECT :authority=10.0.0.1:80; RequestReceived 5 :method=CONNECT :authority=10.0.0.2:80;\n\
-# RequestReceived 7 :method=CONNECT :authority=10.0.0.3:80; StreamEnded 7; SettingsAcknowledged; SettingsAcknowledged;\n\
-# RequestReceived 9 :method=CONNECT :authority=10.0.0.4:80\n\
+";
+
+// server by chance, seed 20: h2 saw RemoteSettingsChanged; SettingsAcknowledged; StreamReset 1 5; PingAckReceived; SettingsAcknowledged;
+// SettingsAcknowledged; SettingsAcknowledged
+// client by chance, seed 21: h2 saw RemoteSettingsChanged; SettingsAcknowledged; SettingsAcknowledged;
+// RequestReceived 1 :method=CONNECT :authority=10.0.0.0:80; StreamEnded 1; RequestReceived 3 :method=CONNECT :authority=10.0.0.1:80;
+// DataReceived 3 9000; PingAckReceived; PingAckReceived; DataReceived 3 1; StreamReset 3 5;
+// RequestReceived 5 :method=CONNECT :authority=10.0.0.2:80; DataReceived 5 0; StreamEnded 5; PingAckReceived
+// server by chance, seed 22: h2 saw RemoteSettingsChanged; SettingsAcknowledged; SettingsAcknowledged; SettingsAcknowledged;
+// PingAckReceived
+// client by chance, seed 23: h2 saw RemoteSettingsChanged; SettingsAcknowledged; SettingsAcknowledged;
+// RequestReceived 1 :method=CONNECT :authority=10.0.0.0:80; DataReceived 1 0; StreamEnded 1; SettingsAcknowledged
+pub const PART_11: &[u8] = b"\
 server by chance, seed 20\n\
-take PRE\n\
-take 00002a04000000000000010000100000020000000100040000ffff000500004000000800000000000300000064000600010000\n\
-take 00000408000000000000004000\n\
-output 00000c040000000000000300000064000600004000000000040100000000\n\
+take PRE H2_CLIENT 00000408000000000000004000\n\
+output OWN_SERVER ACK\n\
 wrote 13\n\
 take 0000130104000000014287bdab4e9c17b7ff4188081702e15ddb8f03\n\
 > opened 1 open 99 :method=CONNECT,:authority=10.0.1.7:80\n\
@@ -2853,33 +2604,25 @@ take 00000100000000000161\n\
 output 0600004000000000040100000000\n\
 wrote 14\n\
 reset 1 5\n\
-take ACK\n\
-take 00000408000000000100004000\n\
+take ACK 00000408000000000100004000\n\
 output 00000403000000000100000005\n\
 wrote 13\n\
-take 00000408000000000000000064\n\
-take 00000b010400000003bf4188081702ecaeedc781\n\
+take 00000408000000000000000064 00000b010400000003bf4188081702ecaeedc781\n\
 > opened 3 open 99 :method=CONNECT,:authority=10.0.3.7:80\n\
 take 000008060000000000543ce9aa0625372f\n\
 reset 3 5\n\
-take 00000403000000000300000000\n\
-take 000006040000000000000400000000\n\
+take 00000403000000000300000000 000006040000000000000400000000\n\
 output 000008060100000000543ce9aa0625372f00000403000000000300000005000000040100000000\n\
 wrote 39\n\
 take 00000604000000000000040000ffff\n\
-output 000000040100000000\n\
+output ACK\n\
 wrote 3\n\
 take 000006040000000000000400000000\n\
 output 040100000000000000040100000000\n\
 wrote 15\n\
-# h2 saw: RemoteSettingsChanged; SettingsAcknowledged; StreamReset 1 5; PingAckReceived; SettingsAcknowledged; SettingsAcknowledged;\n\
-# SettingsAcknowledged\n\
 client by chance, seed 21\n\
-take 00002a04000000000000010000100000020000000000040000ffff000500004000000800000000000300000064000600010000\n\
-take 00000408000000000000000064\n\
-take 00000604000000000000040000ffff\n\
-output 505249202a20485454502f322e300d0a0d0a534d0d0a0d0a00000c04000000000000020000000000060000400000000004010000\n\
-more 0000000000040100000000\n\
+take H2_SERVER 00000408000000000000000064 00000604000000000000040000ffff\n\
+output PRE OWN_CLIENT ACK ACK\n\
 wrote 63\n\
 open 1 10.0.0.0:80 end\n\
 output 000017010500000001200207434f4e4e454354010b31302e302e302e303a3830\n\
@@ -2888,13 +2631,11 @@ open 3 10.0.0.1:80\n\
 output 0000160104000000030207434f4e4e454354010b31302e302e302e313a3830\n\
 wrote 31\n\
 some 3 9000 61*6000 41*3000\n\
-take ACK\n\
-take 00000101040000000188\n\
+take ACK 00000101040000000188\n\
 > opened 1 open 42 :status=200\n\
 take 00000101040000000388\n\
 > opened 3 open 42 :status=200\n\
-take 000008060000000000656a243ef3c666ae\n\
-take 0000080600000000002f51fd01fb2371a3\n\
+take 000008060000000000656a243ef3c666ae 0000080600000000002f51fd01fb2371a3\n\
 output 002328000000000003 61*6000 41*3000 000008060100000000656a243ef3c666ae0000080601000000002f51fd01fb2371a3\n\
 wrote 9043\n\
 some 3 1 62\n\
@@ -2911,70 +2652,49 @@ open 5 10.0.0.2:80\n\
 end 5\n\
 output 0000160104000000050207434f4e4e454354010b31302e302e302e323a3830000000000100000005\n\
 wrote 3\n\
-take 00000408000000000000000064\n\
-take 000000000000000001\n\
+take 00000408000000000000000064 000000000000000001\n\
 > chunk 1\n\
 output 0104000000050207434f4e4e454354010b31302e302e302e323a3830000000000100000005\n\
 wrote 3\n\
-take 0000080600000000008d4705c3400c87a6\n\
-take 00000c01050000000140889acac8b21234da8f8107\n\
+take 0000080600000000008d4705c3400c87a6 00000c01050000000140889acac8b21234da8f8107\n\
 > opened 1 end 44 grpc-status=0\n\
 output 0000050207434f4e4e454354010b31302e302e302e323a38300000000001000000050000080601000000008d4705c3400c87a6\n\
 wrote 51\n\
 take 00000101040000000588\n\
 > opened 5 open 42 :status=200\n\
-# h2 saw: RemoteSettingsChanged; SettingsAcknowledged; SettingsAcknowledged; RequestReceived 1 :method=CONNECT :authority=10.0.0.0:80;\n\
-# StreamEnded 1; RequestReceived 3 :method=CONNECT :authority=10.0.0.1:80; DataReceived 3 9000; PingAckReceived; PingAckReceived;\n\
-# DataReceived 3 1; StreamReset 3 5; RequestReceived 5 :method=CONNECT :authority=10.0.0.2:80; DataReceived 5 0; StreamEnded 5;\n\
-# PingAckReceived\n\
 server by chance, seed 22\n\
-output 00000c040000000000000300000064000600004000\n\
+output OWN_SERVER\n\
 wrote 21\n\
-take PRE\n\
-take 00002a04000000000000010000100000020000000100040000ffff000500004000000800000000000300000064000600010000\n\
-take 00000408000000000000000001\n\
-take ACK\n\
-output 000000040100000000\n\
+take PRE H2_CLIENT 00000408000000000000000001 ACK\n\
+output ACK\n\
 wrote 9\n\
-take 00000408000000000000009c40\n\
-take 000006040000000000000400011170\n\
-output 000000040100000000\n\
+take 00000408000000000000009c40 000006040000000000000400011170\n\
+output ACK\n\
 wrote 9\n\
 take 0000130105000000014287bdab4e9c17b7ff4188081702e15ddb8f03\n\
 > opened 1 end 99 :method=CONNECT,:authority=10.0.1.7:80\n\
 take 00000b010400000003bf4188081702ecaeedc781\n\
 > opened 3 open 99 :method=CONNECT,:authority=10.0.3.7:80\n\
-take 00000604000000000000040000000a\n\
-take 00000403000000000300000000\n\
+take 00000604000000000000040000000a 00000403000000000300000000\n\
 > reset 3 0\n\
-output 000000040100000000\n\
+output ACK\n\
 wrote 9\n\
 take 00000b010400000005c04188081702edaeedc781\n\
 > opened 5 open 99 :method=CONNECT,:authority=10.0.5.7:80\n\
-take 00000806000000000038843d095fb320ae\n\
-take 000128000800000005ff 61*27 41*13 00*255\n\
+take 00000806000000000038843d095fb320ae 000128000800000005ff 61*27 41*13 00*255\n\
 > chunk 5 61*27 41*13\n\
 take 00000403000000000500000000\n\
 > reset 5 0\n\
 output 00000806010000000038843d095fb320ae\n\
 wrote 17\n\
-# h2 saw: RemoteSettingsChanged; SettingsAcknowledged; SettingsAcknowledged; SettingsAcknowledged; PingAckReceived\n\
-";
-
-pub const PART_16: &[u8] = b"\
 client by chance, seed 23\n\
-take 00002a04000000000000010000100000020000000000040000ffff000500004000000800000000000300000064000600010000\n\
-output 505249202a20485454502f322e300d0a0d0a534d0d0a0d0a00000c04000000000000020000000000060000400000000004010000\n\
-more 0000\n\
+take H2_SERVER\n\
+output PRE OWN_CLIENT ACK\n\
 wrote 54\n\
-take ACK\n\
-take 000006040000000000000400000000\n\
-take 00000408000000000000004000\n\
-output 000000040100000000\n\
+take ACK 000006040000000000000400000000 00000408000000000000004000\n\
+output ACK\n\
 wrote 9\n\
-take 00000408000000000000000001\n\
-take 00000408000000000000009c40\n\
-take 00000408000000000000000001\n\
+take 00000408000000000000000001 00000408000000000000009c40 00000408000000000000000001\n\
 open 1 10.0.0.0:80\n\
 output 000017010400000001200207434f4e4e454354010b31302e302e302e303a3830\n\
 wrote 32\n\
@@ -2989,6 +2709,4 @@ output 000100000001000000040100000000\n\
 wrote 15\n\
 take 00000c01050000000140889acac8b21234da8f8107\n\
 > opened 1 end 44 grpc-status=0\n\
-# h2 saw: RemoteSettingsChanged; SettingsAcknowledged; SettingsAcknowledged; RequestReceived 1 :method=CONNECT :authority=10.0.0.0:80;\n\
-# DataReceived 1 0; StreamEnded 1; SettingsAcknowledged\n\
 ";

@@ -79,22 +79,38 @@ impl Read {
     }
 }
 
-/// Has the conversations of a table, cut by this chance.
-fn converse(rt: &impl Abort, alloc: Global, table: &[u8], chance: u32) {
+fn renew(rt: &impl Abort, alloc: Global, talk: &mut Talk, role: &str, chance: u32) {
+    *talk = Talk::new(rt, alloc, role, chance);
+}
+
+/// Follows the lines of a table.
+fn follow(
+    rt: &impl Abort,
+    alloc: Global,
+    talk: &mut Talk,
+    read: &mut Read,
+    table: &[u8],
+    chance: u32,
+) {
     let mut name = "";
-    let mut talk = Talk::new(rt, alloc, "server", chance);
-    let mut read = Read::new(alloc);
     for line in std::str::from_utf8(table).unwrap_or("no text").lines() {
         let (call, _) = cut(line, " ");
         if call == "server" || call == "client" {
-            read.compare(rt, alloc, &mut talk, name);
-            talk = Talk::new(rt, alloc, call, chance);
+            read.compare(rt, alloc, talk, name);
+            renew(rt, alloc, talk, call, chance);
             name = line;
-        } else if call != "#" {
-            read.line(rt, alloc, &mut talk, name, line);
+        } else {
+            read.line(rt, alloc, talk, name, line);
         }
     }
-    read.compare(rt, alloc, &mut talk, name);
+    read.compare(rt, alloc, talk, name);
+}
+
+/// Has the conversations of a table, cut by this chance.
+fn converse(rt: &impl Abort, alloc: Global, table: &[u8], chance: u32) {
+    let mut talk = Talk::new(rt, alloc, "server", chance);
+    let mut read = Read::new(alloc);
+    follow(rt, alloc, &mut talk, &mut read, table, chance);
 }
 
 /// Has all conversations, cut by this chance.
@@ -111,11 +127,6 @@ fn converse_all(rt: &impl Abort, alloc: Global, chance: u32) {
         conversation_rows::PART_9,
         conversation_rows::PART_10,
         conversation_rows::PART_11,
-        conversation_rows::PART_12,
-        conversation_rows::PART_13,
-        conversation_rows::PART_14,
-        conversation_rows::PART_15,
-        conversation_rows::PART_16,
     ];
     for table in tables {
         converse(rt, alloc, table, chance);

@@ -14,15 +14,19 @@ pub struct Seen {
     pub sent: Vec<u8>,
 }
 
+fn show_octets(rt: &impl Abort, told: &mut String, bytes: &[u8]) {
+    for byte in bytes {
+        write!(told, "{byte:02x}").expect(rt, "memory");
+    }
+}
+
 /// The octets of a chunk, or `#` and how many they are.
 fn show_chunk(rt: &impl Abort, told: &mut String, stream: u32, bytes: &[u8]) {
     if bytes.len() > 8 {
         write!(told, " c{stream}#{}", bytes.len()).expect(rt, "memory");
-        return;
-    }
-    write!(told, " c{stream}:").expect(rt, "memory");
-    for byte in bytes {
-        write!(told, "{byte:02x}").expect(rt, "memory");
+    } else {
+        write!(told, " c{stream}:").expect(rt, "memory");
+        show_octets(rt, told, bytes);
     }
 }
 

@@ -1,6 +1,7 @@
 //! Steps of one end and the octets that wait or are sent afterwards, the opening and the first SETTINGS left out.
 
 use crate::desk::Desk;
+use crate::floods;
 use crate::octets::cut;
 use std::alloc::Global;
 use std::process::Abort;
@@ -104,6 +105,13 @@ fn assert_row(rt: &impl Abort, alloc: Global, row: &str) {
 #[test]
 fn steps_leave_what_the_rows_say(rt: HostRuntime) {
     for row in ROWS.lines() {
+        assert_row(&rt, rt.alloc(), row);
+    }
+}
+
+#[test]
+fn floods_are_answered_as_the_rows_say(rt: HostRuntime) {
+    for row in floods::ROWS.lines() {
         assert_row(&rt, rt.alloc(), row);
     }
 }

@@ -5,12 +5,9 @@
 use crate::acts::end_of;
 use crate::octets::{cut, octets_of, times_of};
 use crate::peer::{Seen, run};
+use hb_conn::Conn;
 use std::alloc::Global;
 use std::process::Abort;
-
-const SERVER_OPENING: &str = "00000c040000000000000300000064000600004000";
-
-const CLIENT_OPENING: &str = "PRE 00000c040000000000000200000000000600004000";
 
 const ROWS: &str = "\
 1, 23 octets: server; 505249202a20485454502f322e300d0a0d0a534d0d0a0d =>  => 
@@ -186,17 +183,19 @@ fn row_of(line: &str) -> Row<'_> {
     }
 }
 
-/// The words, each with a blank in front and as often as it says.
+/// Appends a word with a blank in front, as often as it says.
+fn push_word(rt: &impl Abort, told: &mut String, word: &str) {
+    let (word, times) = times_of(rt, word);
+    for _ in 0..times {
+        told.push_str(" ").expect(rt, "memory");
+        told.push_str(word).expect(rt, "memory");
+    }
+}
+
 fn told_of(rt: &impl Abort, alloc: Global, words: &str) -> String {
     let mut told = String::new(alloc);
-    if words.is_empty() {
-        return told;
-    }
-    for word in words.split(' ') {
-        let (word, times) = cut(word, "*");
-        for _ in 0..times_of(rt, times) {
-            write!(told, " {word}").expect(rt, "memory");
-        }
+    for word in words.split_whitespace() {
+        push_word(rt, &mut told, word);
     }
     told
 }
@@ -204,8 +203,8 @@ fn told_of(rt: &impl Abort, alloc: Global, words: &str) -> String {
 /// What is sent in a row, the opening in front.
 fn sent_of(rt: &impl Abort, alloc: Global, row: Row<'_>) -> Vec<u8> {
     let opening = match row.role {
-        "client" => CLIENT_OPENING,
-        _ => SERVER_OPENING,
+        "client" => "PRE OWN_CLIENT",
+        _ => "OWN_SERVER",
     };
     let mut sent = octets_of(rt, alloc, opening);
     sent.extend_from_slice(octets_of(rt, alloc, row.sent).as_slice())
@@ -213,16 +212,18 @@ fn sent_of(rt: &impl Abort, alloc: Global, row: Row<'_>) -> Vec<u8> {
     sent
 }
 
-/// What is told and sent is that of the row.
-fn compare(rt: &impl Abort, alloc: Global, row: Row<'_>, seen: &Seen) {
+fn assert_told(rt: &impl Abort, alloc: Global, row: Row<'_>, seen: &Seen) {
     let told = told_of(rt, alloc, row.told);
-    let sent = sent_of(rt, alloc, row);
     assert!(rt;
         seen.told.as_bytes() == told.as_bytes(),
         "{}: told{}",
         row.line,
         seen.told
     );
+}
+
+fn assert_sent(rt: &impl Abort, alloc: Global, row: Row<'_>, seen: &Seen) {
+    let sent = sent_of(rt, alloc, row);
     assert!(rt;
         seen.sent.as_slice() == sent.as_slice(),
         "{}: other octets are sent",
@@ -230,11 +231,17 @@ fn compare(rt: &impl Abort, alloc: Global, row: Row<'_>, seen: &Seen) {
     );
 }
 
+/// What is told and sent is that of the row.
+fn assert_run(rt: &impl Abort, alloc: Global, conn: &mut Conn, row: Row<'_>, size: usize) {
+    let came = octets_of(rt, alloc, row.came);
+    let seen = run(rt, alloc, conn, came.as_slice(), size);
+    assert_told(rt, alloc, row, &seen);
+    assert_sent(rt, alloc, row, &seen);
+}
+
 fn assert_row(rt: &impl Abort, alloc: Global, row: Row<'_>, size: usize) {
     let mut conn = end_of(rt, alloc, row.role);
-    let came = octets_of(rt, alloc, row.came);
-    let seen = run(rt, alloc, &mut conn, came.as_slice(), size);
-    compare(rt, alloc, row, &seen);
+    assert_run(rt, alloc, &mut conn, row, size);
 }
 
 fn assert_rows(rt: &impl Abort, alloc: Global, size: usize) {

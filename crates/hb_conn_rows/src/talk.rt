@@ -1,7 +1,7 @@
 //! One end in a conversation, and what it tells, in the words of a table.
 
-use crate::acts::{self, MANY, connect, end_of, number_of};
-use crate::octets::{cut, octets_of};
+use crate::acts::{self, MANY, connect, end_of};
+use crate::octets::{cut, number_of, octets_of};
 use hb_conn::{Conn, Happening};
 use hb_hpack::HeaderList;
 use std::alloc::Global;
@@ -13,7 +13,7 @@ const LARGE: u64 = 1_000;
 /// Appends octets that are letters.
 pub fn show(rt: &impl Abort, shown: &mut String, octets: &[u8]) {
     let text = std::str::from_utf8(octets).ok().expect(rt, "a text");
-    write!(shown, "{text}").expect(rt, "memory");
+    shown.push_str(text).expect(rt, "memory");
 }
 
 fn tell_headers(rt: &impl Abort, told: &mut String, headers: &HeaderList) {

@@ -56,30 +56,42 @@ fn told_in_pieces(
     told
 }
 
+/// The row's block is told as it is whole, cut in two at this place, or into pieces of so many octets.
+fn assert_row(
+    rt: &impl Abort,
+    alloc: Global,
+    blocks: &mut Blocks,
+    row: &str,
+    number: usize,
+    in_two: bool,
+) {
+    let (digits, want) = cut(row, " => ");
+    let block = octets_of(rt, alloc, digits);
+    let told = if in_two {
+        told_in_two(rt, blocks, alloc, block.as_slice(), number)
+    } else {
+        told_in_pieces(rt, blocks, alloc, block.as_slice(), number)
+    };
+    assert_told(rt, row, told.as_str(), want);
+}
+
+fn assert_rows(rt: &impl Abort, alloc: Global, number: usize, in_two: bool) {
+    let mut blocks = Blocks::new(alloc);
+    for row in REQUESTS.lines() {
+        assert_row(rt, alloc, &mut blocks, row, number, in_two);
+    }
+}
+
 #[test]
 fn blocks_cut_in_two_are_told_as_whole_ones(rt: HostRuntime) {
-    let alloc = rt.alloc();
     for at in 0..LONGEST + 1 {
-        let mut blocks = Blocks::new(alloc);
-        for row in REQUESTS.lines() {
-            let (digits, want) = cut(row, " => ");
-            let block = octets_of(&rt, alloc, digits);
-            let told = told_in_two(&rt, &mut blocks, alloc, block.as_slice(), at);
-            assert_told(&rt, row, told.as_str(), want);
-        }
+        assert_rows(&rt, rt.alloc(), at, true);
     }
 }
 
 #[test]
 fn blocks_cut_into_pieces_are_told_as_whole_ones(rt: HostRuntime) {
-    let alloc = rt.alloc();
     for size in 1..LONGEST + 1 {
-        let mut blocks = Blocks::new(alloc);
-        for row in REQUESTS.lines() {
-            let (digits, want) = cut(row, " => ");
-            let block = octets_of(&rt, alloc, digits);
-            let told = told_in_pieces(&rt, &mut blocks, alloc, block.as_slice(), size);
-            assert_told(&rt, row, told.as_str(), want);
-        }
+        assert_rows(&rt, rt.alloc(), size, false);
     }
 }

@@ -31,7 +31,8 @@ fn come(blocks: &mut Blocks, frame: Frame<'_>) -> Result<Option<Whole>, Or<Block
 /// Appends a text that has printed letters alone.
 fn show(rt: &impl Abort, shown: &mut String, text: &[u8]) {
     let text = std::str::from_utf8(text).ok().expect(rt, "a text");
-    write!(shown, "|{text}").expect(rt, "memory");
+    shown.push_str("|").expect(rt, "memory");
+    shown.push_str(text).expect(rt, "memory");
 }
 
 /// The headers that are lent: of each `|`, its name, `|` and its value.

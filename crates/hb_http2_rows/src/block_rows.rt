@@ -107,17 +107,24 @@ fn renew(alloc: Global, blocks: &mut Blocks) {
     *blocks = Blocks::new(alloc);
 }
 
-#[test]
-fn fragments_are_put_together_and_decoded(rt: HostRuntime) {
-    let alloc = rt.alloc();
-    let mut blocks = Blocks::new(alloc);
+fn assert_line(rt: &impl Abort, alloc: Global, blocks: &mut Blocks, line: &str) {
+    let (words, want) = cut(line, " => ");
+    let told = answer_to(rt, alloc, blocks, words);
+    assert_told(rt, line, told.as_str(), want);
+}
+
+fn follow(rt: &impl Abort, alloc: Global, blocks: &mut Blocks) {
     for line in ROWS.lines() {
         if line == "n" {
-            renew(alloc, &mut blocks);
+            renew(alloc, blocks);
         } else if !line.starts_with('#') {
-            let (words, want) = cut(line, " => ");
-            let told = answer_to(&rt, alloc, &mut blocks, words);
-            assert_told(&rt, line, told.as_str(), want);
+            assert_line(rt, alloc, blocks, line);
         }
     }
+}
+
+#[test]
+fn fragments_are_put_together_and_decoded(rt: HostRuntime) {
+    let mut blocks = Blocks::new(rt.alloc());
+    follow(&rt, rt.alloc(), &mut blocks);
 }

@@ -134,13 +134,13 @@ fn show(rt: &impl Abort, shown: &mut String, text: &[u8]) {
 pub fn shown_of(rt: &impl Abort, alloc: Global, headers: &[Header]) -> String {
     let mut shown = String::new(alloc);
     for header in headers {
-        shown.push('|').expect(rt, "memory");
+        shown.push_str("|").expect(rt, "memory");
         show(rt, &mut shown, header.name.as_slice());
-        shown.push('|').expect(rt, "memory");
+        shown.push_str("|").expect(rt, "memory");
         show(rt, &mut shown, header.value.as_slice());
     }
     if shown.is_empty() {
-        shown.push('-').expect(rt, "memory");
+        shown.push_str("-").expect(rt, "memory");
     }
     shown
 }
@@ -193,13 +193,18 @@ fn renew(alloc: Global, decoder: &mut Decoder) {
 }
 
 /// Follows the lines of a table, as the head of hpack_vectors.rt says.
-fn follow(rt: &impl Abort, alloc: Global, table: &[u8], counts: &mut Counts) {
-    let mut decoder = Decoder::new(alloc);
+fn follow(
+    rt: &impl Abort,
+    alloc: Global,
+    decoder: &mut Decoder,
+    table: &[u8],
+    counts: &mut Counts,
+) {
     for line in std::str::from_utf8(table).unwrap_or("no text").lines() {
         if line == "n" {
-            renew(alloc, &mut decoder);
+            renew(alloc, decoder);
         } else if !line.starts_with('#') {
-            assert_line(rt, alloc, &mut decoder, line);
+            assert_line(rt, alloc, decoder, line);
             counts.add(line);
         }
     }
@@ -210,8 +215,9 @@ fn assert_follows(rt: &impl Abort, alloc: Global, tables: &[&[u8]], want: Counts
         read: 0,
         refused: 0,
     };
+    let mut decoder = Decoder::new(alloc);
     for table in tables {
-        follow(rt, alloc, table, &mut counts);
+        follow(rt, alloc, &mut decoder, table, &mut counts);
     }
     assert!(rt; counts.read == want.read && counts.refused == want.refused);
 }

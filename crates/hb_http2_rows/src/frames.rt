@@ -72,7 +72,7 @@ fn assert_read(rt: &impl Abort, alloc: Global, octets: &[u8], want: &str) {
 fn add_frame(rt: &impl Abort, alloc: Global, row: &str, stream: &mut Vec<u8>, lines: &mut String) {
     let (words, shown) = cut(row, "; ");
     let mut line = String::from_str(alloc, shown).expect(rt, "memory");
-    line.push('\n').expect(rt, "memory");
+    line.push_str("\n").expect(rt, "memory");
     let octets = octets_of(rt, alloc, words);
     stream
         .extend_from_slice(octets.as_slice())
@@ -147,16 +147,19 @@ fn assert_gives(rt: &impl Abort, reader: &mut FrameReader, octets: &[u8]) {
     assert_octets(rt, "last", reader.last_bytes(), octets);
 }
 
-/// A DATA frame of 16,384 octets, which fills a reader to its last of 16,393, and is given whole.
+/// A DATA frame of 16,384 octets fills a reader to its last of 16,393, and is given whole.
+fn assert_largest(rt: &impl Abort, alloc: Global, reader: &mut FrameReader) {
+    let payload = octets_of(rt, alloc, "64*16384");
+    let octets = octets_of(rt, alloc, "004000000100000005 64*16384 00");
+    assert!(rt; reader.feed(octets.as_slice()) == 16_393 && reader.space() == 0);
+    assert_gives(rt, reader, payload.as_slice());
+    assert!(rt; reader.space() == 16_393);
+}
+
 #[test]
 fn the_largest_frame_is_read(rt: HostRuntime) {
-    let payload = octets_of(&rt, rt.alloc(), "64*16384");
-    let octets = octets_of(&rt, rt.alloc(), "004000000100000005 64*16384 00");
     let mut reader = FrameReader::new(rt.alloc(), 16_384).expect(&rt, "memory");
-    assert!(rt; reader.feed(octets.as_slice()) == 16_393);
-    assert!(rt; reader.space() == 0);
-    assert_gives(&rt, &mut reader, payload.as_slice());
-    assert!(rt; reader.space() == 16_393);
+    assert_largest(&rt, rt.alloc(), &mut reader);
 }
 
 /// The reader's space, and the body that it gave last.

@@ -41,6 +41,9 @@ all DATA is taken back: put 00000100000000000161; put 000000040100000000; put 00
     waits 000000040100000000; unbegun 0 0; ends 3 no; room 65527
 but what has begun: put 00000100000000000161; put 00000100000000000362; wrote 1; all; waits 000100000000000161; all; wrote 9; waits
 an opening twice: open 41; wrote 1; open 42; waits 42; back 0 0
+two DATA frames of 32,768 octets fill it to the last octet, also once others were written: put 007ff7000000000001 07*32759; \
+    put 007ff7000100000003 07*32759; room 0; wrote 32768; room 32768; put 007ff7000000000005 07*32759; room 0; back 1 0; back 3 32759; \
+    unbegun 5 32759; waits 007ff7000000000005 07*32759
 ";
 
 /// Does the steps of a row on an Outgoing of its own.

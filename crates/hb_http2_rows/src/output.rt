@@ -67,19 +67,28 @@ const SECOND: &str = "003ff700017fffffff 65*16375";
 const HEAD_AND_SECOND: &str = "003ff7000100000001 003ff700017fffffff 65*16375";
 
 /// Two DATA frames of 16,384 octets fill an output of 32,768 to its last octet.
+fn assert_fill(rt: &impl Abort, alloc: Global, output: &mut Output) {
+    put_words(rt, alloc, output, FIRST);
+    put_words(rt, alloc, output, SECOND);
+    assert!(rt; output.room() == 0 && output.front().len() == 32_768);
+}
+
+/// The first one's payload is cut out, and its head is dropped.
+fn assert_cut(rt: &impl Abort, alloc: Global, output: &mut Output) {
+    assert!(rt; output.front().len() == 32_768);
+    output.cut(9, 16_375);
+    assert_front(rt, alloc, output, HEAD_AND_SECOND);
+    assert!(rt; output.front().len() == 16_393);
+    output.drop_front(9);
+    assert_front(rt, alloc, output, SECOND);
+    assert!(rt; output.room() == 16_384);
+}
+
 #[test]
 fn an_output_is_filled_and_cut(rt: HostRuntime) {
     let mut output = Output::new(rt.alloc(), 32_768).expect(&rt, "memory");
-    put_words(&rt, rt.alloc(), &mut output, FIRST);
-    put_words(&rt, rt.alloc(), &mut output, SECOND);
-    assert!(rt; output.room() == 0);
-    assert!(rt; output.front().len() == 32_768);
-    output.cut(9, 16_375);
-    assert_front(&rt, rt.alloc(), &output, HEAD_AND_SECOND);
-    assert!(rt; output.front().len() == 16_393);
-    output.drop_front(9);
-    assert_front(&rt, rt.alloc(), &output, SECOND);
-    assert!(rt; output.room() == 16_384);
+    assert_fill(&rt, rt.alloc(), &mut output);
+    assert_cut(&rt, rt.alloc(), &mut output);
 }
 
 #[test]

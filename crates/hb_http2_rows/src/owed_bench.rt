@@ -46,11 +46,12 @@ impl Bench {
     }
 
     /// Puts a DATA frame of stream 99 that leaves so much room.
-    fn fill(&mut self, rt: &impl Abort, room: usize) {
-        let payload = [0u8; 65_536];
+    fn fill(&mut self, rt: &impl Abort, alloc: Global, room: usize) {
         let free = self.out.room();
         assert!(rt; room <= 65_536 && free <= 65_536 && room + 9 <= free);
-        self.out.put_frame(0, 0, 99, &payload[..free - 9 - room]);
+        let mut payload = Vec::new(alloc);
+        payload.resize(free - 9 - room, 0).expect(rt, "memory");
+        self.out.put_frame(0, 0, 99, payload.as_slice());
     }
 
     fn wrote(&mut self, rt: &impl Abort, n: usize) {
@@ -67,7 +68,7 @@ impl Bench {
     }
 
     /// A call that changes what is owed or what waits; false where the word is none of these.
-    fn act(&mut self, rt: &impl Abort, call: &str, stream: u32, rest: &str) -> bool {
+    fn act(&mut self, rt: &impl Abort, alloc: Global, call: &str, stream: u32, rest: &str) -> bool {
         match call {
             "open" => self.open(rt, stream),
             "status" => self.status(rt, stream, rest),
@@ -76,7 +77,7 @@ impl Bench {
             "reset" => self.owed.owe_reset(stream, number_of(rt, rest)),
             "close" => self.owed.close(stream),
             "back" => self.owed.take_back(stream),
-            "fill" => self.fill(rt, stream as usize),
+            "fill" => self.fill(rt, alloc, stream as usize),
             "wrote" => self.wrote(rt, stream as usize),
             _ => return false,
         }
@@ -116,7 +117,7 @@ impl Bench {
             _ => {
                 let (stream, rest) = cut(rest, " ");
                 let stream = number_of(rt, stream);
-                if !self.act(rt, call, stream, rest) {
+                if !self.act(rt, alloc, call, stream, rest) {
                     self.ask(rt, row, call, stream, rest);
                 }
             }

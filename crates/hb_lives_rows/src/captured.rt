@@ -4,7 +4,8 @@
 use crate::captured_rows::{LIVES, RELAYS};
 use crate::resources::{apply, nothing_held};
 use crate::words::{
-    At, cut, must, number_of, octets_of, put_to, same, text_of, words_of_act, words_of_note,
+    At, cut, must, number_of, octets_of, put_to, same, text_of, turned_in, words_of_act,
+    words_of_note,
 };
 use hb_base::{Cause, Door, Note, read_target};
 use hb_held::{Held, OwnDoors};
@@ -16,7 +17,6 @@ use std::process::Abort;
 #[derive(Drop)]
 struct Life {
     alloc: Global,
-    door: Door,
     relay: Relay,
     routes: Routes,
     held: Held,
@@ -24,21 +24,19 @@ struct Life {
 
 /// The calls of the link itself.
 impl Life {
-    /// A link that was accepted at this door of a node with these doors.
-    fn new(rt: &impl Abort, alloc: Global, doors: OwnDoors, door: Door) -> Life {
-        let relay = Relay::accepted(alloc, door, 7);
+    /// A link at this door of a node with these doors, which was accepted or turned away.
+    fn new(rt: &impl Abort, alloc: Global, doors: OwnDoors, door: Door, turned: bool) -> Life {
+        let relay = if turned {
+            Relay::turned_away(alloc, door, 7)
+        } else {
+            Relay::accepted(alloc, door, 7)
+        };
         Life {
             alloc,
-            door,
             relay: relay.ok().expect(rt, "memory"),
             routes: Routes::new(alloc, 15008),
             held: nothing_held(rt, alloc, doors),
         }
-    }
-
-    fn turn_away(&mut self, rt: &impl Abort) {
-        let away = Relay::turned_away(self.alloc, self.door, 7);
-        self.relay = away.ok().expect(rt, "memory");
     }
 
     /// A response comes.
@@ -150,10 +148,12 @@ impl Life {
         self.relay.lacks_room(&mut self.routes)
     }
 
-    fn stream_opened(&mut self, rt: &impl Abort, at: At, end: bool) -> Option<Note> {
-        let note = self.relay.stream_opened(end);
+    fn stream_opened(&mut self, end: bool) -> Option<Note> {
+        Some(self.relay.stream_opened(end))
+    }
+
+    fn on_stream(&self, rt: &impl Abort, at: At) {
         must(rt, at, self.relay.lives_on_stream());
-        Some(note)
     }
 
     /// These bytes wait for the stream, and so many of them are put.
@@ -236,10 +236,9 @@ impl Life {
         }
     }
 
-    /// A line that sets up the link, or is a call on its upstream, which makes no note.
+    /// A line on its acts, or a call on its upstream, which makes no note.
     fn called(&mut self, rt: &impl Abort, at: At, call: &str, rest: &str) {
         match call {
-            "turned" => self.turn_away(rt),
             "dialled" => self.dialled(rt, at),
             "upcame" => self.up_come(rt, at, rest.as_bytes()),
             "dial" => same(rt, at, self.act().as_str(), at.line),
@@ -252,7 +251,11 @@ impl Life {
     fn of_stream(&mut self, rt: &impl Abort, at: At, call: &str, rest: &str) -> Option<Note> {
         match call {
             "roomless" => self.lacks_room(),
-            "opened" => self.stream_opened(rt, at, rest == "end"),
+            "opened" => {
+                let note = self.stream_opened(rest == "end");
+                self.on_stream(rt, at);
+                note
+            }
             "complete" => self.complete(rt, at, number_of(rt, rest)),
             "refused" | "reset" => self.failed(rt, call, rest),
             _ => {
@@ -313,6 +316,14 @@ impl Life {
             Some(note) => same(rt, at, words_of_note(self.alloc, &note).as_str(), wanted),
         }
     }
+
+    fn lines(&mut self, rt: &impl Abort, row: &str, lines: &str) {
+        for named in lines.lines() {
+            for line in lines_of(named).lines() {
+                self.line(rt, row, line);
+            }
+        }
+    }
 }
 
 /// The doors of a node that words name.
@@ -329,7 +340,7 @@ fn doors_in(rt: &impl Abort, words: &str) -> OwnDoors {
 }
 
 /// The link of a row, beside what its first line says.
-fn begun(rt: &impl Abort, alloc: Global, row: &str) -> Life {
+fn begun(rt: &impl Abort, alloc: Global, row: &str, turned: bool) -> Life {
     let (_, head) = cut(row, ": ");
     let (door, words) = cut(head, " ");
     let door = if door == "plain" {
@@ -337,7 +348,7 @@ fn begun(rt: &impl Abort, alloc: Global, row: &str) -> Life {
     } else {
         Door::Outbound
     };
-    let mut life = Life::new(rt, alloc, doors_in(rt, words), door);
+    let mut life = Life::new(rt, alloc, doors_in(rt, words), door, turned);
     for word in words.split_whitespace() {
         if !word.contains("=") {
             life.apply(rt, word);
@@ -349,19 +360,16 @@ fn begun(rt: &impl Abort, alloc: Global, row: &str) -> Life {
 /// The lines that a line stands for.
 fn lines_of(line: &str) -> &str {
     match line {
-        "relays" => RELAYS,
+        "relays" => text_of(RELAYS),
         _ => line,
     }
 }
 
 /// Plays the lines of a row.
 fn play(rt: &impl Abort, alloc: Global, row: &str, lines: &str) {
-    let mut life = begun(rt, alloc, row);
-    for named in lines.lines() {
-        for line in lines_of(named).lines() {
-            life.line(rt, row, line);
-        }
-    }
+    let (turned, lines) = turned_in(lines);
+    let mut life = begun(rt, alloc, row, turned);
+    life.lines(rt, row, lines);
 }
 
 #[test]

@@ -13,7 +13,7 @@
 //! | `reads N` | so many bytes may be read of it |
 //! | `update NAME` | this response comes, and the link is judged |
 //! | `stopped N` | the run ends |
-//! | `turned away` | as many links were open as may be, when it came |
+//! | `turned away` | as many links were open as may be, when it came; a row's first line |
 //! | `dial TARGET WHY` | this dial is due, until it is told what became of it |
 //! | `act WORDS` | these acts are due, with `, ` between, and no other |
 //! | `dialled`, `undialled` | what was to be dialled gave the upstream, or failed |
@@ -35,7 +35,7 @@
 //! | `left` | it has no stream |
 
 /// `abc` goes to its upstream and `def` comes.
-pub const RELAYS: &str = "\
+pub const RELAYS: &[u8] = b"\
 upsent abc of them 1\n\
 upsent bc of them 2\n\
 upcame def\n\

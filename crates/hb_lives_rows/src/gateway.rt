@@ -76,14 +76,19 @@ impl Life {
         self.gate.take_bytes(octets.as_slice());
     }
 
+    /// What waits is written, and is put behind what went.
+    fn write(&mut self, rt: &impl Abort, sent: &mut Vec<u8>) {
+        let output = self.gate.output();
+        let n = output.len();
+        sent.extend_from_slice(output).expect(rt, "memory");
+        self.gate.wrote(n);
+    }
+
     fn sent(&mut self, rt: &impl Abort, at: At, words: &str) {
         let wanted = octets_of(rt, self.alloc, words);
         let mut sent = Vec::new(self.alloc);
         for _ in 0..4 {
-            let output = self.gate.output();
-            let n = output.len();
-            sent.extend_from_slice(output).expect(rt, "memory");
-            self.gate.wrote(n);
+            self.write(rt, &mut sent);
         }
         must(rt, at, sent.as_slice() == wanted.as_slice());
         must(rt, at, self.gate.output().is_empty());
@@ -190,16 +195,19 @@ impl Life {
             _ => self.on_link(rt, at, call, rest),
         }
     }
+
+    fn lines(&mut self, rt: &impl Abort, row: &str, lines: &str) {
+        for line in lines.lines() {
+            self.line(rt, row, line);
+        }
+    }
 }
 
 /// Plays the lines of a row behind those of its opening.
 fn play(rt: &impl Abort, alloc: Global, row: &str, lines: &str) {
     let mut life = Life::new(rt, alloc);
-    for lines in [OPENING, lines] {
-        for line in lines.lines() {
-            life.line(rt, row, line);
-        }
-    }
+    life.lines(rt, row, text_of(OPENING));
+    life.lines(rt, row, lines);
 }
 
 #[test]

@@ -22,7 +22,7 @@
 /// The opening of each link: the header of the PROXY protocol (section 2.2), the connection preface (RFC 9113 section 3.4), SETTINGS 2 of
 /// 0 and 6 of 16,384, and CONNECT to 10.0.0.8:80 on stream 1, behind a table size update (RFC 7541 sections 6.2.2 and 6.3); the gateway's
 /// SETTINGS, and their acknowledgement.
-pub const OPENING: &str = "\
+pub const OPENING: &[u8] = b"\
 opened\n\
 ask 1 7\n\
 sent 0d0a0d0a000d0a515549540a2111000c0a0000090a00000700003aa0 \

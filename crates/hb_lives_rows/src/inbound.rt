@@ -5,7 +5,8 @@ use crate::inbound_rows::{LIVES, OPENS, SERVES};
 use crate::resources::{apply, nothing_held};
 use crate::told::Told;
 use crate::words::{
-    At, cut, must, number_of, octets_of, same, stream_of, text_of, words_of_act, words_of_note,
+    At, cut, must, number_of, octets_of, same, stream_of, text_of, turned_in, words_of_act,
+    words_of_note,
 };
 use hb_base::Cause;
 use hb_held::{Held, OwnDoors};
@@ -26,7 +27,13 @@ struct Life {
 
 /// The calls of the link itself.
 impl Life {
-    fn new(rt: &impl Abort, alloc: Global) -> Life {
+    /// A link that was accepted or turned away.
+    fn new(rt: &impl Abort, alloc: Global, turned: bool) -> Life {
+        let link = if turned {
+            Link::turned_away(alloc, 7)
+        } else {
+            Link::accepted(alloc, 7)
+        };
         let told = Told {
             alloc,
             notes: Vec::new(alloc),
@@ -35,16 +42,12 @@ impl Life {
         };
         Life {
             alloc,
-            link: Link::accepted(alloc, 7).ok().expect(rt, "memory"),
+            link: link.ok().expect(rt, "memory"),
             held: nothing_held(rt, alloc, OwnDoors::none()),
             others: 0,
             limit: 4096,
             told,
         }
-    }
-
-    fn turn_away(&mut self, rt: &impl Abort) {
-        self.link = Link::turned_away(self.alloc, 7).ok().expect(rt, "memory");
     }
 
     fn update(&mut self, rt: &impl Abort, words: &str) {
@@ -231,7 +234,6 @@ impl Life {
     /// A line that sets up the link, or asks how much.
     fn counted(&mut self, rt: &impl Abort, at: At, call: &str, rest: &str) {
         match call {
-            "turned" => self.turn_away(rt),
             "places" => self.places(rt, rest),
             "rouse" => self.link.rouse_all(),
             "load" => must(rt, at, self.link.load() as u64 == number_of(rt, rest)),
@@ -251,6 +253,14 @@ impl Life {
         }
     }
 
+    fn lines(&mut self, rt: &impl Abort, row: &str, lines: &str) {
+        for named in lines.lines() {
+            for line in lines_of(named).lines() {
+                self.line(rt, row, line);
+            }
+        }
+    }
+
     /// Each note was asked for.
     fn finish(&self, rt: &impl Abort, row: &str) {
         let at = At {
@@ -265,20 +275,17 @@ impl Life {
 /// The lines that a line stands for.
 fn lines_of(line: &str) -> &str {
     match line {
-        "serves" => SERVES,
-        "opens" => OPENS,
+        "serves" => text_of(SERVES),
+        "opens" => text_of(OPENS),
         _ => line,
     }
 }
 
 /// Plays the lines of a row.
 fn play(rt: &impl Abort, alloc: Global, row: &str, lines: &str) {
-    let mut life = Life::new(rt, alloc);
-    for named in lines.lines() {
-        for line in lines_of(named).lines() {
-            life.line(rt, row, line);
-        }
-    }
+    let (turned, lines) = turned_in(lines);
+    let mut life = Life::new(rt, alloc, turned);
+    life.lines(rt, row, lines);
     life.finish(rt, row);
 }
 

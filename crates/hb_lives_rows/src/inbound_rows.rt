@@ -5,7 +5,7 @@
 //! | Line | Says |
 //! |---|---|
 //! | `row NAME` | a link is accepted at the inbound door of a node that was told nothing |
-//! | `turned away` | as many links were open as may be, when it came |
+//! | `turned away` | as many links were open as may be, when it came; a row's first line |
 //! | `places N of N` | the tunnels of other links take so many places of so many |
 //! | `update NAME` | this response comes, and the link's tunnels are judged |
 //! | `came OCTETS`, `ended`, `broke` | these come of it, it ends, or it breaks |
@@ -22,7 +22,7 @@
 //! | `serves`, `opens` | the lines below |
 
 /// The target's workload is known and no policy is there; the link's header and preface come.
-pub const SERVES: &str = "\
+pub const SERVES: &[u8] = b"\
 update KNOWN\n\
 update NO_POLICY\n\
 came INBOUND_FRONT\n\
@@ -31,7 +31,7 @@ came PREFACE SETTINGS\n\
 sent SETTINGS_ACK";
 
 /// A tunnel is asked for on stream 1, and its upstream, number 8, opens.
-pub const OPENS: &str = "\
+pub const OPENS: &[u8] = b"\
 came CONNECT_1\n\
 act dial 10.0.0.7:9090 of 7/1\n\
 dialled 1 8\n\

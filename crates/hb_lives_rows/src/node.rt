@@ -138,14 +138,18 @@ impl Life {
             _ => self.on_link(rt, at, call, rest),
         }
     }
+
+    fn lines(&mut self, rt: &impl Abort, row: &str, lines: &str) {
+        for line in lines.lines() {
+            self.line(rt, row, line);
+        }
+    }
 }
 
 /// Plays the lines of a row.
 fn play(rt: &impl Abort, alloc: Global, row: &str, lines: &str) {
     let mut life = Life::new(rt, alloc);
-    for line in lines.lines() {
-        life.line(rt, row, line);
-    }
+    life.lines(rt, row, lines);
 }
 
 #[test]

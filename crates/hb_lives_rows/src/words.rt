@@ -39,6 +39,14 @@ pub fn cut<'a>(text: &'a str, mark: &str) -> (&'a str, &'a str) {
     text.split_once(mark).unwrap_or((text, ""))
 }
 
+/// Whether the first of a row's lines says that its link is turned away, and the other lines.
+pub fn turned_in(lines: &str) -> (bool, &str) {
+    match lines.strip_prefix("turned away\n") {
+        None => (false, lines),
+        Some(rest) => (true, rest),
+    }
+}
+
 /// The number that digits spell.
 pub fn number_of(rt: &impl Abort, text: &str) -> u64 {
     text.parse::<u64>().ok().expect(rt, "a number")
@@ -46,7 +54,7 @@ pub fn number_of(rt: &impl Abort, text: &str) -> u64 {
 
 /// The stream whose number digits spell.
 pub fn stream_of(rt: &impl Abort, text: &str) -> u32 {
-    text.parse::<u32>().ok().expect(rt, "a stream")
+    u32::try_from(number_of(rt, text)).expect(rt, "a stream")
 }
 
 /// The digits that a name stands for; digits for themselves.

@@ -1,6 +1,6 @@
 use denote.Text.{Utf8}
 use denote.Shadow.{shadow}
-use Rattle.hb_conn_rows.proofs.conversations.converse.Given as goal
+use Rattle.hb_conn_rows.proofs.conversations.follow.Given as goal
 
 -- the name is a text
 abbrev pub invariant-loop-line : goal.invariant-loop-line
