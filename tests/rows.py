@@ -15,6 +15,7 @@ FORMS = {
     "ends": rf"({'|'.join(PORTS)}) (\d+)",
 }
 PORT_MARKS = b"#####"
+PORT_NAMES = re.compile(rf"{{({'|'.join(PORTS)})}}".encode())
 
 
 @dataclass
@@ -30,8 +31,8 @@ class Line:
 class Row:
     name: str
     lines: list
-    # The wanted lines of standard output and of standard error
-    texts: dict = field(default_factory=lambda: {">": b"", "!": b""})
+    # The wanted lines of standard output, and of notes and of the log on standard error
+    texts: dict = field(default_factory=lambda: {">": b"", "!": b"", "+": b""})
 
     def has(self, call):
         return any(line.call == call for line in self.lines)
@@ -53,6 +54,10 @@ def read_frames(text):
 
 def with_port(octets, port):
     return octets.replace(PORT_MARKS, b"%d" % port)
+
+
+def with_ports(octets, ports):
+    return PORT_NAMES.sub(lambda found: b"%d" % ports[found[1].decode()], octets)
 
 
 def octets_of(words, frames, ports):
@@ -89,7 +94,7 @@ class Reader:
             return
         if call == "row":
             self.rows.append(Row(rest, [*self.first]))
-        elif call in (">", "!"):
+        elif call in (">", "!", "+"):
             if not self.rows or not self.rows[-1].has("ends"):
                 raise Bad("no run ends in front of it")
             self.rows[-1].texts[call] += f"{rest}\n".encode()

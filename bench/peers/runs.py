@@ -69,7 +69,8 @@ def two_doors_on_one_port(room):
     port = free_port()
     proxy = Proxy(room.program, room.discovery, inbound=port, plain=port)
     wanted("the status", proxy.process.wait(10), 4)
-    wanted("what is told", proxy.told(), [f"hbone: plain door {HERE}:{port}: address in use", "hbone: world fault"])
+    first = f"listens door=inbound at={HERE}:{port}"
+    wanted("what is told", proxy.told(), [first, f"hbone: plain door {HERE}:{port}: address in use", "hbone: world fault"])
 
 
 @case
@@ -151,12 +152,13 @@ def standard_error_that_nobody_reads(room):
     threading.Thread(target=read_all, args=(reads, came), daemon=True).start()
     until("what waited", lambda: len(came) > 300_000)
     answer_of(peer, peer.connect(f"{HERE}:{up.port}"))
-    until("the next line", lambda: b" lines lost\nverdict" in came and came.endswith(b"\n"))
+    until("the next lines", lambda: b" lines lost\n" in came and b"\nverdict 2/3 401 " in came and came.endswith(b"\nwhy 2/3 none_allows=1\n"))
     lines = came.decode().splitlines()
     lost = sum(int(line.split(" ")[1]) for line in lines if line.startswith("hbone: "))
     kept = sum(line.startswith(("verdict ", "end ")) for line in lines)
-    # an answer of 200, 5,500 refusals, an end, one more refusal
-    wanted("lines and those that were lost", (kept + lost, len(lines) - kept), (5503, 1))
+    # an answer of 200, 5,500 refusals, an end, one more refusal; and a door that listens, the control plane dialled and open
+    reasons = sum(line.startswith("why ") for line in lines)
+    wanted("lines and those that were lost", (kept + lost, len(lines) - kept - reasons), (5503, 4))
     room.proxy.end()
     return f"revoked within {took:.2f} s, {lost} lines lost"
 

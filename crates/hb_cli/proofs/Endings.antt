@@ -9,7 +9,8 @@ use Rattle.hb_words.specs.declared.fault.WordsFault.{WordsFault}
 use Rattle.hb_cli.specs.Replaying.{RunState}
 use Rattle.hb_cli.specs.declared.ended.ReplayEnd.{ReplayEnd}
 use Rattle.hb_cli.specs.declared.ended.ReplayEnd.TheVariants as ends
-use Rattle.hb_cli.specs.Ending.{Run, HasOutcome, Gives, Answers, IsDone, WordsRefused, InputRefused, WorldFailed, TurnsSpent, Unread, Unwritten, Wanting}
+use Rattle.hb_cli.specs.Ending.{Run, HasOutcome, Gives, Answers, IsDone, WordsRefused, InputRefused, WorldFailed, TurnsSpent, Unread}
+use Rattle.hb_cli.specs.Ending.{Unwritten, Wanting}
 use Rattle.hb_cli.specs.Ending.{Stays, EndsWith}
 use Rattle.hb_cli.specs.Leaving.{EndsRun}
 use Rattle.hb_cli.specs.Run.{is_status, is_answered, takes_input}

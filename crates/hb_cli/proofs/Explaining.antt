@@ -1,5 +1,6 @@
 -- The lines that `check --explain` prints tell each policy, and decide the answer.
-use Rattle.std.proofs.Common.{◌≡◌, ℕ, ◌+◌, zero, suc, Bool, true, false, true≢false, cond, nat_eq, not, ◌&&◌, ◌||◌, length, List, [], ◌∷◌, map, Option, Some, None, option_map, is_some, codes, refl, sym, ap, ap₂, subst, ◌∙◌, arith}
+use Rattle.std.proofs.Common.{◌≡◌, ℕ, ◌+◌, zero, suc, Bool, true, false, true≢false, cond, nat_eq, not, ◌&&◌, ◌||◌, length, List, []}
+use Rattle.std.proofs.Common.{◌∷◌, map, Option, Some, None, option_map, is_some, codes, refl, sym, ap, ap₂, subst, ◌∙◌, arith}
 use Rattle.std.specs.Prelude.{◌↔◌, IsTrue, nat_lt, if◌then◌else◌}
 use Rattle.std.specs.Fmt.{digits}
 use Rattle.std.specs.List.{list_any, position, position_or_len, starts_with}
@@ -21,7 +22,8 @@ use Rattle.hb_table.specs.declared.judgement.Judged.{Judged}
 use Rattle.hb_table.specs.declared.judgement.Judged.TheVariants.{Admitted, Denied}
 use Rattle.hb_table.specs.Judgement.{judged, judged_at}
 use Rattle.hb_cli.specs.Judge.{policy_line}
-use Rattle.hb_cli.specs.Explaining.{denies, may_allow, allows, admits, IsFirst, TellsEach, Explains, told_lines, by_next_rule, all_but_first}
+use Rattle.hb_cli.specs.Explaining.{denies, may_allow, allows, admits, IsFirst, TellsEach, Explains, told_lines, by_next_rule}
+use Rattle.hb_cli.specs.Explaining.{all_but_first}
 
 -- ---- the first that passes
 
@@ -135,11 +137,13 @@ anyone = record { name = []; namespace = []; scope = Global; action = Deny; rule
 pub fewer_explain_nothing : Explains all_but_first → ⊥
 fewer_explain_nothing explains = explains.tells someone (anyone ∷ [])
 
-told_by_next : (rule : Option ℕ) → IsFirst (rule_met someone) anyone.rules rule → explained_text anyone (Some 1) ≡ explained_text anyone rule
+told_by_next : (rule : Option ℕ) → IsFirst (rule_met someone) anyone.rules rule
+    → explained_text anyone (Some 1) ≡ explained_text anyone rule
     → ⊥
 unfolding explained_text escape_byte digits
 told_by_next None first is = true≢false first
-told_by_next (Some zero) first is = true≢false (ap (λ line. starts_with nat_eq line (codes "{\"action\":\"deny\",\"fires\":true,\"policy\":\"/\",\"rule\":1")) is)
+told_by_next (Some zero) first is =
+    true≢false (ap (λ line. starts_with nat_eq line (codes "{\"action\":\"deny\",\"fires\":true,\"policy\":\"/\",\"rule\":1")) is)
 told_by_next (Some (suc n)) first is = true≢false first.0
 
 pub next_explains_nothing : Explains by_next_rule → ⊥

@@ -1,5 +1,6 @@
 -- What `check --explain` prints decides its answer.
-use Rattle.std.specs.Prelude.{⊤, ◌≡◌, ◌↔◌, ℕ, suc, Bool, true, false, IsTrue, not, ◌&&◌, ◌||◌, nat_eq, List, [], ◌∷◌, map, take, drop, slice_get, Option, Some, None, option_map, codes}
+use Rattle.std.specs.Prelude.{⊤, ◌≡◌, ◌↔◌, ℕ, suc, Bool, true, false, IsTrue, not, ◌&&◌, ◌||◌, nat_eq, List, [], ◌∷◌, map, take, drop}
+use Rattle.std.specs.Prelude.{slice_get, Option, Some, None, option_map, codes}
 use Rattle.std.specs.List.{list_any, starts_with}
 use Rattle.hb_held.specs.Held.{Resources}
 use Rattle.hb_held.specs.Lookup.{known}

@@ -1,5 +1,6 @@
 -- The input of a command: gRPC messages (gRPC over HTTP/2, "Length-Prefixed-Message"), each a response.
-use Rattle.std.specs.Prelude.{ℕ, ◌+◌, ◌==◌, Bool, true, false, List, [], ◌∷◌, ◌++◌, length, take, drop, Option, Some, None, Result, Ok, Err, if◌then◌else◌}
+use Rattle.std.specs.Prelude.{ℕ, ◌+◌, ◌==◌, Bool, true, false, List, [], ◌∷◌, ◌++◌, length, take, drop, Option, Some, None, Result, Ok}
+use Rattle.std.specs.Prelude.{Err, if◌then◌else◌}
 use Rattle.hb_wire.specs.Message.{and_then}
 use Rattle.hb_disco.specs.declared.response.Response.{Response}
 use Rattle.hb_disco.specs.declared.response.ResponseFault.{ResponseFault}

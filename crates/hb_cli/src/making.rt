@@ -90,7 +90,8 @@ fn run_made<K: Sink, E: Sink, A: Audit>(
     requires range { make.now.count ≤ most_tunnels }
     requires lines { script.old.lines ≡ [] }
     requires trace { script.old.trace ≡ [] }
-    ensures runs { RunsAt make.now (heard_of (answers_by A.notes A.answers) (each audits.old) (each audits.new)) (run_state script.new keep.new)
+    ensures runs { RunsAt make.now (heard_of (answers_by A.notes A.answers) (each audits.old) (each audits.new))
+        (run_state script.new keep.new)
         (used K.written K.faults out.old out.new) (used E.written E.faults err.old err.new) result }
     ensures later_out { K.faults out.old ≤ K.faults out.new }
     ensures later_err { E.faults err.old ≤ E.faults err.new }

@@ -108,8 +108,8 @@ pub fn replays_leave_lawful_runs<A: Audit>()
 {}
 
 /// The headline holds of what a replay did, and `serve` over a world that tells its trace, behind which an answer stands: bytes of tunnels
-/// are prefixes of those that came on the other side, upstreams are dialled for their tunnels, what is held is none forged, and no byte goes
-/// unless that admits its peer.
+/// are prefixes of those that came on the other side, upstreams are dialled for their tunnels, what is held is none forged, and no byte
+/// goes unless that admits its peer.
 pub fn runs_keep_the_headline<A: Audit>()
     ensures replays { EachEnding (answers_by A.notes A.answers) (λ r status. (p : Replays) → r.asked ≡ Ok (replays p)
         → (status ≡ 0) ⊎ (status ≡ 4) ⊎ (status ≡ 5) ⊎ (status ≡ 7) → KeepsHeadline (words_of p.run None) r.left.script.trace) }

@@ -1,5 +1,6 @@
 -- Lines that wait until a sink takes them.
-use Rattle.std.specs.Prelude.{ℕ, ◌+◌, ◌-◌, ◌==◌, Bool, true, false, not, nat_le, if◌then◌else◌, List, ◌++◌, length, take, codes, decimal, Option, Some, None}
+use Rattle.std.specs.Prelude.{ℕ, ◌+◌, ◌-◌, ◌==◌, Bool, true, false, not, nat_le, if◌then◌else◌, List, ◌++◌, length, take, codes}
+use Rattle.std.specs.Prelude.{decimal, Option, Some, None}
 use Rattle.std.specs.Option.{option_map}
 use Rattle.std.specs.List.{suffix_len}
 use Rattle.hb_base.specs.Count.{one_more}

@@ -46,7 +46,7 @@ pub(crate) fn door_of(token: Token) -> Option<Door> {
 }
 
 /// The address that a target names.
-pub(crate) fn address_of(target: Target) -> SocketAddr {
+pub fn address_of(target: Target) -> SocketAddr {
     let ip = match target.ip {
         Ip::V4(bits) => IpAddr::from(Ipv4Addr::from(bits)),
         Ip::V6(bits) => IpAddr::from(Ipv6Addr::from(bits)),

@@ -10,5 +10,7 @@ mod sockets;
 mod stop;
 mod watch;
 
+pub use doors::address_of;
 pub use log::Log;
 pub use mio_world::MioWorld;
+pub use reason::reason_of;

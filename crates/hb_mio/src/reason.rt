@@ -9,7 +9,7 @@ use std::io::{self, ErrorKind};
 /// What the system told, in words.
 ///
 /// Errors: `NoMemory`.
-fn reason_of(alloc: Global, error: &io::Error) -> Result<String, NoMemory> {
+pub fn reason_of(alloc: Global, error: &io::Error) -> Result<String, NoMemory> {
     match error.kind() {
         ErrorKind::AddrInUse => String::from_str(alloc, "address in use"),
         ErrorKind::AddrNotAvailable => String::from_str(alloc, "address not of this machine"),

@@ -1,5 +1,6 @@
 -- What a trace says of a link once one more entry stands at its end.
-use Rattle.std.proofs.Common.{◌≡◌, ℕ, ◌+◌, ◌==◌, true, false, List, [], ◌∷◌, ◌++◌, length, Option, Some, None, refl, ap, sym, ◌∙◌, ◌<◌, get_or, take, length-append}
+use Rattle.std.proofs.Common.{◌≡◌, ℕ, ◌+◌, ◌==◌, true, false, List, [], ◌∷◌, ◌++◌, length, Option, Some, None, refl, ap, sym, ◌∙◌, ◌<◌}
+use Rattle.std.proofs.Common.{get_or, take, length-append}
 use Rattle.std.proofs.Math.Nat.{add-zero}
 use Rattle.std.proofs.lemmas.List.{take_more}
 use Rattle.std.proofs.lemmas.List.Elements.{filter_map-append}
@@ -8,7 +9,8 @@ use Rattle.std.specs.List.{cons_option}
 use Rattle.std.specs.Option.{option_or}
 use Rattle.hb_base.specs.declared.cause.Cause.{Cause}
 use Rattle.hb_world.specs.declared.entry.Entry.{Entry}
-use Rattle.hb_world.specs.declared.entry.Entry.TheVariants.{Accepted, Dialled, DialFailed, Opened, Came, Ended, Broke, Went, Balked, Shut, Closed, Tick, Wait}
+use Rattle.hb_world.specs.declared.entry.Entry.TheVariants.{Accepted, Dialled, DialFailed, Opened, Came, Ended, Broke, Went, Balked}
+use Rattle.hb_world.specs.declared.entry.Entry.TheVariants.{Shut, Closed, Tick, Wait}
 use Rattle.hb_world.specs.Trace.{recv, sent, came_on, went_on}
 use Rattle.hb_world.proofs.TraceLemmas.{recv-grows, sent-grows}
 use Rattle.hb_report.specs.declared.tallies.Tally.{Tally}

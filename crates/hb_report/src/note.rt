@@ -31,8 +31,11 @@ fn add_ip(ip: Ip, line: &mut String) -> Result<(), NoMemory>
     }
 }
 
+/// Appends a target, an IPv6 address by RFC 5952 section 4 in brackets. Where the text has room for it, no memory is taken.
+///
+/// Errors: `NoMemory`, and then a part of it may be appended.
 #[tactic(auto, unfolding(hb_base::specs::TargetText::target_text))]
-fn add_target(target: Target, line: &mut String) -> Result<(), NoMemory>
+pub fn add_target(target: Target, line: &mut String) -> Result<(), NoMemory>
     ensures { OnOk result (string_bytes line.new ≡ string_bytes line.old ++ target_text target) }
 {
     let port = target.port;

@@ -59,5 +59,6 @@ asked_alike Serve v w same =
       same (codes "tunnels") _ refl,
       same (codes "turns") _ refl,
       same (codes "ticks") _ refl,
+      same (codes "status") _ refl,
       same (codes "stop-on-input") _ refl,
     ) refl

@@ -1,5 +1,6 @@
 -- Decimal digits as `parse` reads them.
-use Rattle.std.proofs.Common.{◌≡◌, ℕ, ◌<◌, ◌≤◌, ◌^◌, ◌*◌, ◌+◌, Bool, true, false, not, List, length, fold, Some, None, Result, Ok, Err, nat_le, refl, arith}
+use Rattle.std.proofs.Common.{◌≡◌, ℕ, ◌<◌, ◌≤◌, ◌^◌, ◌*◌, ◌+◌, Bool, true, false, not, List, length, fold, Some, None, Result, Ok, Err}
+use Rattle.std.proofs.Common.{nat_le, refl, arith}
 use Rattle.std.specs.Str.Parse.{ParsesUnsigned}
 use Rattle.std.specs.List.{list_all}
 use Rattle.std.specs.Result.{OkIff}

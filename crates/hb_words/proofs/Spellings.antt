@@ -1,5 +1,6 @@
 -- The words that are accepted are the spellings of items of a command.
-use Rattle.std.proofs.Common.{◌≡◌, Bool, true, false, true≢false, ◌&&◌, cond, List, [], ◌∷◌, Option, Some, None, option_and_then, option_map, inl, inr, Result, Ok, Err, codes, bytes_eq, refl, sym, subst, ap, ap₂, ◌∙◌}
+use Rattle.std.proofs.Common.{◌≡◌, Bool, true, false, true≢false, ◌&&◌, cond, List, [], ◌∷◌, Option, Some, None, option_and_then}
+use Rattle.std.proofs.Common.{option_map, inl, inr, Result, Ok, Err, codes, bytes_eq, refl, sym, subst, ap, ap₂, ◌∙◌}
 use Rattle.std.specs.List.{list_all}
 use Rattle.std.specs.Prelude.{◌⊎◌}
 use Rattle.std.proofs.lemmas.Bool.{and_parts}
@@ -13,7 +14,8 @@ use Rattle.clap.specs.Walk.{Row, Text, first_of, rows_of}
 use Rattle.clap.specs.declared.parser.matches.ArgMatches.{ArgMatches}
 use Rattle.clap.specs.declared.parser.matches.Found.{Found}
 use Rattle.hb_options.proofs.Top.{takes_spelled_items, are_spelled_cleanly, spells_taken_words, gives_items_values}
-use Rattle.hb_options.specs.Items.{Part, Command, Item, Spells, Refused, command_named as declared_named, part_named, are_proper, is_clean, value_of}
+use Rattle.hb_options.specs.Items.{Part, Command, Item, Spells, Refused, command_named as declared_named, part_named, are_proper}
+use Rattle.hb_options.specs.Items.{is_clean, value_of}
 use Rattle.hb_options.specs.Read.{Reads}
 use Rattle.hb_options.specs.Taken.{Gives}
 use Rattle.hb_words.specs.declared.fault.Why.{Why}
@@ -29,7 +31,9 @@ use Rattle.hb_words.specs.Page.{SpellsPage, page_of}
 use Rattle.hb_words.specs.Part.{command_named}
 use Rattle.hb_words.specs.Values.{asked_by}
 use Rattle.hb_words.specs.Why.{shown, step, walk, why_of}
-use Rattle.hb_words.specs.Words.{program, is_accepted, values_of, or_behind, behind, command_first, of_named, command_by, or_page, words_of, values_among, ReadsSpelledItems, ReadsPages, AsksForPage, AsksByItems, AcceptsThese, OthersAskForNone}
+use Rattle.hb_words.specs.Words.{program, is_accepted, values_of, or_behind, behind, command_first, of_named, command_by, or_page}
+use Rattle.hb_words.specs.Words.{words_of, values_among, ReadsSpelledItems, ReadsPages, AsksForPage, AsksByItems, AcceptsThese}
+use Rattle.hb_words.specs.Words.{OthersAskForNone}
 use Rattle.hb_words.proofs.Alike.{asked_alike}
 
 pub are_all_proper : are_proper commands ≡ true
@@ -98,7 +102,8 @@ refused_told c words rest refused = go (is_accepted words) refl where
 
 module _ (words : List Text) (c : CommandName) (items : List Item) (spells : Spells commands words (declared c) items) where
   -- the values of the items
-  values_same : (name : Text) (p : Part) → part_named (parts_of c) name ≡ Some p → values_of words name ≡ values_among (parts_of c) items name
+  values_same : (name : Text) (p : Part) → part_named (parts_of c) name ≡ Some p
+      → values_of words name ≡ values_among (parts_of c) items name
   unfolding values_of
   values_same name p is =
       let given = gives_items_values (codes "hbone") commands words (declared c) items are_all_proper spells in

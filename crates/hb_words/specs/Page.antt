@@ -8,7 +8,9 @@ use Rattle.hb_words.specs.declared.page.Page.TheVariants.{Commands, Words, Versi
 use Rattle.hb_words.specs.declared.part.CommandName.{CommandName}
 use Rattle.hb_words.specs.declared.part.CommandName.TheVariants.{Check, Route, Show, Make, Replay, Serve}
 use Rattle.hb_words.specs.declared.part.PartName.{PartName}
-use Rattle.hb_words.specs.declared.part.PartName.TheVariants.{Node, Network, Explain, Source, Identity, Target, Fields, Id, Discovery, Inbound, Outbound, Plain, HbonePort, Tunnels, Turns, Ticks, StopOnInput, Trace, Brief, Count, Run}
+use Rattle.hb_words.specs.declared.part.PartName.TheVariants.{Node, Network, Explain, Source, Identity, Target, Fields, Id, Discovery}
+use Rattle.hb_words.specs.declared.part.PartName.TheVariants.{Inbound, Outbound, Plain, HbonePort, Tunnels, Turns, Ticks, Status}
+use Rattle.hb_words.specs.declared.part.PartName.TheVariants.{StopOnInput, Trace, Brief, Count, Run}
 use Rattle.hb_words.specs.Grammar.{command_text, parts_of}
 use Rattle.hb_words.specs.Part.{id_text, command_named}
 
@@ -88,6 +90,7 @@ part_line HbonePort = codes "  --hbone-port PORT     the port at which workloads
 part_line Tunnels = codes "  --tunnels COUNT       the most tunnels at a time, 1 to 4096; without it 4096\n"
 part_line Turns = codes "  --turns COUNT         the most turns of the event loop; one more ends the run with status 5\n"
 part_line Ticks = codes "  --ticks COUNT         the tick of the timer, about one a second, that ends the run\n"
+part_line Status = codes "  --status TARGET       where the state of the run is told over HTTP; without it nowhere\n"
 part_line StopOnInput = codes "  --stop-on-input       ends the run where standard input ends or has a byte\n"
 part_line Trace = codes "  --trace               tells each call on a socket, too\n"
 part_line Brief = codes "  --brief               tells the totals alone\n"
@@ -103,7 +106,7 @@ shown_parts Make = Count ∷ Run ∷ []
 shown_parts Replay =
     Node ∷ Id ∷ Discovery ∷ Inbound ∷ Outbound ∷ Plain ∷ Network ∷ HbonePort ∷ Tunnels ∷ Turns ∷ Trace ∷ Brief ∷ []
 shown_parts Serve =
-    Node ∷ Id ∷ Discovery ∷ Inbound ∷ Outbound ∷ Plain ∷ Network ∷ HbonePort ∷ Tunnels ∷ Turns ∷ Ticks ∷ StopOnInput ∷ []
+    Node ∷ Id ∷ Discovery ∷ Inbound ∷ Outbound ∷ Plain ∷ Network ∷ HbonePort ∷ Tunnels ∷ Turns ∷ Ticks ∷ Status ∷ StopOnInput ∷ []
 
 -- the commands, in the order of their lines
 abbrev pub shown_commands : List CommandName

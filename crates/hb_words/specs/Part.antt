@@ -4,7 +4,9 @@ use Rattle.std.specs.Str.{bytes_eq}
 use Rattle.hb_words.specs.declared.part.CommandName.{CommandName}
 use Rattle.hb_words.specs.declared.part.CommandName.TheVariants.{Check, Route, Show, Make, Replay, Serve}
 use Rattle.hb_words.specs.declared.part.PartName.{PartName}
-use Rattle.hb_words.specs.declared.part.PartName.TheVariants.{Node, Network, Explain, Source, Identity, Target, Fields, Id, Discovery, Inbound, Outbound, Plain, HbonePort, Tunnels, Turns, Ticks, StopOnInput, Trace, Brief, Count, Run}
+use Rattle.hb_words.specs.declared.part.PartName.TheVariants.{Node, Network, Explain, Source, Identity, Target, Fields, Id, Discovery}
+use Rattle.hb_words.specs.declared.part.PartName.TheVariants.{Inbound, Outbound, Plain, HbonePort, Tunnels, Turns, Ticks, Status}
+use Rattle.hb_words.specs.declared.part.PartName.TheVariants.{StopOnInput, Trace, Brief, Count, Run}
 
 -- the command that a word names
 abbrev pub command_named : List ℕ → Option CommandName
@@ -34,6 +36,7 @@ id_text HbonePort = codes "hbone-port"
 id_text Tunnels = codes "tunnels"
 id_text Turns = codes "turns"
 id_text Ticks = codes "ticks"
+id_text Status = codes "status"
 id_text StopOnInput = codes "stop-on-input"
 id_text Trace = codes "trace"
 id_text Brief = codes "brief"
@@ -67,7 +70,8 @@ other_option name =
     if bytes_eq name (codes "--hbone-port") then Some HbonePort
     else (if bytes_eq name (codes "--tunnels") then Some Tunnels
     else (if bytes_eq name (codes "--turns") then Some Turns
-    else (if bytes_eq name (codes "--ticks") then Some Ticks else any_flag name)))
+    else (if bytes_eq name (codes "--ticks") then Some Ticks
+    else (if bytes_eq name (codes "--status") then Some Status else any_flag name))))
 
 abbrev pub any_option : List ℕ → Option PartName
 any_option name =
@@ -120,6 +124,7 @@ has Replay Trace = true
 has Replay Brief = true
 has Replay p = is_run_option p
 has Serve Ticks = true
+has Serve Status = true
 has Serve StopOnInput = true
 has Serve p = is_run_option p
 

@@ -17,7 +17,9 @@ use Rattle.hb_words.specs.declared.fault.Why.TheVariants.{BadValue, BadTarget}
 use Rattle.hb_words.specs.declared.part.CommandName.{CommandName}
 use Rattle.hb_words.specs.declared.part.CommandName.TheVariants as command
 use Rattle.hb_words.specs.declared.part.PartName.{PartName}
-use Rattle.hb_words.specs.declared.part.PartName.TheVariants.{Node, Network, Explain, Source, Identity as Peer, Target, Fields, Id, Discovery, Inbound, Outbound, Plain, HbonePort, Tunnels, Turns, Ticks, StopOnInput, Trace, Brief, Count, Run}
+use Rattle.hb_words.specs.declared.part.PartName.TheVariants.{Node, Network, Explain, Source, Identity as Peer, Target, Fields, Id}
+use Rattle.hb_words.specs.declared.part.PartName.TheVariants.{Discovery, Inbound, Outbound, Plain, HbonePort, Tunnels, Turns, Ticks}
+use Rattle.hb_words.specs.declared.part.PartName.TheVariants.{Status, StopOnInput, Trace, Brief, Count, Run}
 use Rattle.hb_words.specs.Command.{Question, Route, Command, RunWords, Replay, Serve, checks, routes, shows, replays, serves, makes}
 use Rattle.hb_words.specs.Make.{most_tunnels}
 use Rattle.hb_words.specs.Number.{number_of}
@@ -136,7 +138,8 @@ unfoldable pub serve_by : Values → Result Serve Why
 serve_by v =
     and_then (run_by v) (λ r.
     and_then (number_in v Ticks 18446744073709551615) (λ ticks.
-    Ok (record { run = r; ticks = ticks; stop_on_input = is_raised v StopOnInput })))
+    and_then (target_in v Status) (λ status.
+    Ok (record { run = r; ticks = ticks; stop_on_input = is_raised v StopOnInput; status = status }))))
 
 -- what the command asks that has these values, or the first that isn't of its grammar and range
 unfoldable pub asked_by : CommandName → Values → Result Command Why

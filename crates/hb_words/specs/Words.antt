@@ -1,7 +1,8 @@
 -- The words of the command line: `check --node NODE [--network NETWORK] [--explain] SOURCE IDENTITY TARGET`,
 -- `route --node NODE [--network NETWORK] [--hbone-port PORT] SOURCE TARGET`, `show [--fields]`, `make N [--run]`, and `replay` and `serve`
 -- with their options; `--help` and `--version` alone, and `--help` alone behind a command.
-use Rattle.std.specs.Prelude.{◌≡◌, ◌⊎◌, ℕ, ◌&&◌, Bool, List, [], ◌∷◌, Option, Some, None, Result, Ok, Err, option_and_then, if◌then◌else◌, codes}
+use Rattle.std.specs.Prelude.{◌≡◌, ◌⊎◌, ℕ, ◌&&◌, Bool, List, [], ◌∷◌, Option, Some, None, Result, Ok, Err, option_and_then}
+use Rattle.std.specs.Prelude.{if◌then◌else◌, codes}
 use Rattle.std.specs.List.{list_all}
 use Rattle.clap.specs.Simple.{App, subcommand_of}
 use Rattle.clap.specs.Takes.{takes}

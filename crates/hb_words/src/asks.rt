@@ -75,6 +75,8 @@ pub struct Serve<'a> {
     pub ticks: Option<u64>,
     /// Whether the end of standard input, or its first byte, ends it.
     pub stop_on_input: bool,
+    /// Where the state of the run is told over HTTP. None: nowhere.
+    pub status: Option<Target>,
 }
 
 /// What `make` asks: a script of so many tunnels.

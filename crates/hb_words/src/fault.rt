@@ -77,7 +77,8 @@ impl PartName {
             | PartName::Discovery
             | PartName::Inbound
             | PartName::Outbound
-            | PartName::Plain => " is neither IPv4:PORT nor [IPv6]:PORT",
+            | PartName::Plain
+            | PartName::Status => " is neither IPv4:PORT nor [IPv6]:PORT",
             PartName::HbonePort => " is no number from 1 to 65535",
             PartName::Tunnels => " is no number from 1 to 4096",
             PartName::Turns | PartName::Ticks => " is no number from 1 to 18446744073709551615",

@@ -71,6 +71,7 @@ static COMMANDS: [Declaration<'static>; 6] = [
             Part::Valued("tunnels", false),
             Part::Valued("turns", false),
             Part::Valued("ticks", false),
+            Part::Valued("status", false),
             Part::Flag("stop-on-input"),
         ],
     },

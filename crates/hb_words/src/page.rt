@@ -69,7 +69,7 @@ static REPLAY_PARTS: [PartName; 12] = [
     PartName::Brief,
 ];
 
-static SERVE_PARTS: [PartName; 12] = [
+static SERVE_PARTS: [PartName; 13] = [
     PartName::Node,
     PartName::Id,
     PartName::Discovery,
@@ -81,6 +81,7 @@ static SERVE_PARTS: [PartName; 12] = [
     PartName::Tunnels,
     PartName::Turns,
     PartName::Ticks,
+    PartName::Status,
     PartName::StopOnInput,
 ];
 
@@ -244,6 +245,9 @@ impl PartName {
             }
             PartName::Ticks => {
                 "  --ticks COUNT         the tick of the timer, about one a second, that ends the run\n"
+            }
+            PartName::Status => {
+                "  --status TARGET       where the state of the run is told over HTTP; without it nowhere\n"
             }
             PartName::StopOnInput => {
                 "  --stop-on-input       ends the run where standard input ends or has a byte\n"

@@ -2,7 +2,8 @@
 
 ghost use Rattle.std.specs.Prelude.{◌≡◌};
 ghost use Rattle.hb_words.specs.Grammar.{command_text};
-ghost use Rattle.hb_words.specs.Part.{command_named, id_text, dashes, is_run_option, has, is_flag, any_option, other_option, any_flag, part_of, places_of};
+ghost use Rattle.hb_words.specs.Part.{command_named, id_text, dashes, is_run_option, has, is_flag, any_option, other_option, any_flag};
+ghost use Rattle.hb_words.specs.Part.{part_of, places_of};
 
 /// The commands.
 #[derive(Clone, Copy)]
@@ -36,6 +37,8 @@ pub enum PartName {
     Tunnels,
     Turns,
     Ticks,
+    /// Where the state of the run is told.
+    Status,
     StopOnInput,
     Trace,
     Brief,
@@ -119,6 +122,9 @@ fn other_option(name: &str) -> Option<PartName>
     if name == "--ticks" {
         return Some(PartName::Ticks);
     }
+    if name == "--status" {
+        return Some(PartName::Status);
+    }
     any_flag(name)
 }
 
@@ -168,6 +174,7 @@ impl PartName {
             PartName::Tunnels => "tunnels",
             PartName::Turns => "turns",
             PartName::Ticks => "ticks",
+            PartName::Status => "status",
             PartName::StopOnInput => "stop-on-input",
             PartName::Trace => "trace",
             PartName::Brief => "brief",
@@ -255,7 +262,11 @@ impl CommandName {
                 part.is_run_option() || matches!(part, PartName::Trace | PartName::Brief)
             }
             CommandName::Serve => {
-                part.is_run_option() || matches!(part, PartName::Ticks | PartName::StopOnInput)
+                part.is_run_option()
+                    || matches!(
+                        part,
+                        PartName::Ticks | PartName::Status | PartName::StopOnInput
+                    )
             }
         }
     }

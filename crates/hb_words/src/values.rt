@@ -6,7 +6,8 @@ ghost use Rattle.hb_base.specs.Outcome.{Answers};
 ghost use Rattle.hb_words.specs.Asked.{asked, route_answer, command_of, commanded};
 ghost use Rattle.hb_words.specs.AskedRun.{run_answer, replay_answer, serve_answer};
 ghost use Rattle.hb_words.specs.Make.{most_tunnels, IsInRange};
-ghost use Rattle.hb_words.specs.Values.{text_in, is_raised, wanted_target, target_in, number_in, number_or, source_in, place_target, identity_or_none, check_by, route_by, make_by, run_by, replay_by, serve_by, asked_by};
+ghost use Rattle.hb_words.specs.Values.{text_in, is_raised, wanted_target, target_in, number_in, number_or, source_in, place_target};
+ghost use Rattle.hb_words.specs.Values.{identity_or_none, check_by, route_by, make_by, run_by, replay_by, serve_by, asked_by};
 
 use crate::asks::{Check, Command, Make, Replay, Route, RunWords, Serve, Show};
 use crate::fault::Why;
@@ -202,6 +203,7 @@ fn serve<'a>(values: &ArgMatches<'a>) -> Result<Serve<'a>, Why>
     Ok(Serve {
         run: run(values)?,
         ticks: number(values, PartName::Ticks, u64::MAX)?,
+        status: target(values, PartName::Status)?,
         stop_on_input: is_raised(values, PartName::StopOnInput),
     })
 }

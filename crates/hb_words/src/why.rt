@@ -4,7 +4,8 @@ ghost use Rattle.std.specs.Prelude.{◌≡◌, ◌≤◌, IfOk, Ok, map};
 ghost use Rattle.std.specs.List.{list_all, list_any};
 ghost use Rattle.std.specs.String.{string_bytes};
 ghost use Rattle.hb_base.specs.Outcome.{Answers};
-ghost use Rattle.hb_words.specs.Why.{is_shown, shown, option_name, names, behind_option, option_step, place_step, step, walk, missing_option, why_of};
+ghost use Rattle.hb_words.specs.Why.{is_shown, shown, option_name, names, behind_option, option_step, place_step, step, walk};
+ghost use Rattle.hb_words.specs.Why.{missing_option, why_of};
 ghost use Rattle.hb_words.specs.Word.{is_dashed, is_value};
 
 use crate::fault::Why;

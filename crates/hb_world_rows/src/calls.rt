@@ -1,7 +1,8 @@
 //! Calls of a world in words, and what they answer, in words.
 //!
-//! A call is its name, then its door or link, then the room of a read or the bytes of a write. Each listen and dial has the
-//! same address, each close the cause Done. Bytes are written as letters.
+//! A call is its name, then its door or link, then the room of a read, the bytes of a write or the cause of a close, which is Done where
+//! none stands there. Behind a dial stands for what it is, where it isn't for the control plane. Each listen and dial has the same
+//! address. Bytes are written as letters.
 
 use hb_base::{Cause, Door, Ip, Target, Why};
 use hb_world::{
@@ -44,6 +45,36 @@ fn door_of(word: &str) -> Door {
         Door::Outbound
     } else {
         Door::Plain
+    }
+}
+
+fn why_of(word: &str) -> Why {
+    if word == "gateway" {
+        Why::Gateway { link: 1 }
+    } else if word == "upstream" {
+        Why::Upstream { link: 1, stream: 1 }
+    } else if word == "plain" {
+        Why::Plain { link: 1 }
+    } else if word == "direct" {
+        Why::Direct { link: 1 }
+    } else {
+        Why::Discovery
+    }
+}
+
+fn cause_of(words: &str) -> Cause {
+    if words == "broken" {
+        Cause::Broken
+    } else if words == "gone away" {
+        Cause::GoneAway
+    } else if words == "stopped" {
+        Cause::Stopped
+    } else if words == "conn fault 6" {
+        Cause::ConnFault(6)
+    } else if words == "front fault 3" {
+        Cause::FrontFault(3)
+    } else {
+        Cause::Done
     }
 }
 
@@ -195,7 +226,7 @@ fn make_at_link<W: World>(
     } else if name == "shut" {
         world.shut(link);
     } else {
-        world.close(link, Cause::Done);
+        world.close(link, cause_of(argument));
     }
 }
 
@@ -214,7 +245,7 @@ pub fn make_call<W: World>(
     } else if name == "glance" {
         make_glance(world, ready, told);
     } else if name == "dial" {
-        tell_born(told, world.dial(ADDRESS, Why::Discovery));
+        tell_born(told, world.dial(ADDRESS, why_of(at)));
     } else if name == "listen" || name == "accept" {
         make_at_door(world, told, name, door_of(at));
     } else {

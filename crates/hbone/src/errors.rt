@@ -1,11 +1,14 @@
 //! Standard error: the lines that wait for it, and what stands behind them.
 
+use crate::counts::Counts;
 use hb_base::{Put, Sink, StdSink};
 use hb_line_audit::{Polled, SharedAudit};
 use hb_mio::Log;
 use libc::net::{POLLERR, POLLHUP, POLLNVAL, POLLOUT, poll};
 use libc::types::pollfd;
+use std::alloc::Global;
 use std::io::Write;
+use std::sync::Arc;
 
 /// The descriptor of standard error.
 const STANDARD_ERROR: i32 = 2;
@@ -63,10 +66,12 @@ impl<K: Sink> Polled for StandardError<K> {
     }
 }
 
-/// The world's lines, which stand among those of the notes.
+/// Lines of the world and of what is logged around it, which stand among those of the notes. The world flushes them before each wait, which
+/// is counted where the state is told.
 #[derive(Drop)]
 pub(crate) struct ErrorLog<K: Drop> {
     pub lines: SharedAudit<K>,
+    pub counts: Option<Arc<Counts, Global>>,
 }
 
 impl<K: Polled + Drop> Log for ErrorLog<K> {
@@ -75,7 +80,20 @@ impl<K: Polled + Drop> Log for ErrorLog<K> {
     }
 
     fn flush(&mut self) {
+        if let Some(counts) = &self.counts {
+            counts.look();
+        }
         self.lines.flush();
+    }
+}
+
+impl<K: Polled + Drop> hb_log::Log for ErrorLog<K> {
+    ghost use Rattle.std.specs.Prelude.{None};
+
+    ghost handed = { λ l. None };
+
+    fn line(&mut self, line: &str) {
+        self.lines.tell(line);
     }
 }
 

@@ -1,0 +1,4 @@
+pub mod Fact
+pub mod Known
+pub mod Told
+pub mod Examples
