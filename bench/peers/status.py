@@ -34,7 +34,7 @@ def metrics(port):
 
 def counted(port):
     """What isn't 0, but for the loop's own numbers."""
-    return {name: value for name, value in metrics(port).items() if value and not name.startswith(("hbone_looks", "hbone_quiet"))}
+    return {name: value for name, value in metrics(port).items() if value and not name.startswith(("hbone_looks", "hbone_quiet", "hbone_synced"))}
 
 
 def raw(room, port, data=b""):
@@ -54,16 +54,18 @@ def rest(it):
 
 
 def told(room, **settings):
-    """The port at which a program that was started tells its state."""
+    """The port at which a program that was started, and was told workloads and policies, tells its state."""
     port = free_port()
     room.start("--status", f"{HERE}:{port}", **settings)
+    until("it is ready", lambda: asked(port)[0] == 200)
     return port
 
 
 @case
 def the_state_of_a_run(room):
-    """`/ready` is 200; `/metrics` counts an answer of each status, a tunnel that is open, its end by its cause and its bytes both ways."""
+    """`/live` and `/ready` are 200; `/metrics` counts an answer of each status, a tunnel that is open, its end by its cause and its bytes both ways."""
     port = told(room)
+    wanted("live", asked(port, "/live"), (200, "text/plain", "live\n"))
     wanted("ready", asked(port), (200, "text/plain", "ready\n"))
     wanted("at first", counted(port), {})
     peer, other, up = room.peer(), room.peer(identity=OTHER), room.upstream(echo)
@@ -196,3 +198,21 @@ def lines_that_end_are_told(room):
         says(peer, stream, b"hello")
         wanted("answers", metrics(port)['hbone_answers_total{status="200"}'], at + 1)
     until("the lines ended", lambda: metrics(port)["hbone_log_stopped"] == 1)
+
+
+@case
+def ready_once_it_was_told(room):
+    """While no control plane is there `/live` is 200 and `/ready` 503; once workloads and policies came both are 200, and they stay so when
+    it is gone."""
+    port = free_port()
+    room.serve("--status", f"{HERE}:{port}")
+    until("it is live", lambda: asked(port, "/live")[0] == 200)
+    time.sleep(2.5)
+    lacks = "workloads and policies weren't told yet\n"
+    wanted("before", (asked(port), metrics(port)["hbone_synced"]), ((503, "text/plain", lacks), 0))
+    room.control()
+    room.settle()
+    until("it is ready", lambda: asked(port)[0] == 200)
+    room.plane.stop()
+    time.sleep(2.5)
+    wanted("behind it", (asked(port)[2], asked(port, "/live")[2], metrics(port)["hbone_synced"]), ("ready\n", "live\n", 1))

@@ -39,6 +39,9 @@ pub trait Audit: Drop {
         ensures later { faults self.old ≤ faults self.new }
         ensures counts { Counts (faults self.old) (faults self.new) (has_failed result) };
 
+    /// Time passed, and whether workloads and policies were told by then. No contract speaks of it: it is for whoever shows how a run fares.
+    fn ticked(&self, _synced: bool) {}
+
     /// Whether it tells its notes and the one at this place, counted from 0, is `n`.
     fn holds(&self, place: usize, n: &Note) -> bool
         ensures { IsTrue result ↔ note_at (notes self.now) place ≡ Some n.now };

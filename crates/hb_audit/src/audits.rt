@@ -60,6 +60,13 @@ impl<A: Audit> Audits<A> {
         }
     }
 
+    /// Tells each audit that time passed, and whether workloads and policies were told by then.
+    pub fn ticked(&self, synced: bool) {
+        for audit in self.audits.as_slice() {
+            audit.ticked(synced);
+        }
+    }
+
     /// Tells each audit a note, with its reason. One that did not keep it is dropped; the others stay in order. How many were dropped.
     pub fn tell(&mut self, n: &Note, reason: Option<Reason<'_>>) -> usize
         ensures one { TellsOne (answers_by A.notes A.answers) (each self.old) (each self.new) (told_of n.now reason.entry) }

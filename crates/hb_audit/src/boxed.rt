@@ -18,6 +18,10 @@ impl Audit for Box<dyn Audit> {
         (**self).note(n, reason)
     }
 
+    fn ticked(&self, synced: bool) {
+        (**self).ticked(synced);
+    }
+
     fn holds(&self, place: usize, n: &Note) -> bool {
         (**self).holds(place, n)
     }

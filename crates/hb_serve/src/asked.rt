@@ -124,6 +124,7 @@ impl<G: Given<A>, A: Audit> Node for Asked<G, A> {
 
     fn tick(&mut self) {
         self.proxy.tick();
+        self.audits.ticked(self.proxy.held().synced());
     }
 
     fn output(&self, link: u64) -> &[u8] {

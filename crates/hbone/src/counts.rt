@@ -58,6 +58,8 @@ pub(crate) struct Counts {
     /// The bytes of the tunnels that ended.
     up: AtomicU64,
     down: AtomicU64,
+    /// Whether workloads and policies were told, as of the last tick.
+    is_synced: AtomicBool,
     /// Whether the lines of the notes ended, since one couldn't be taken.
     is_silent: AtomicBool,
     /// Whether the run ended.
@@ -128,6 +130,7 @@ impl Counts {
             ends,
             up: AtomicU64::new(0),
             down: AtomicU64::new(0),
+            is_synced: AtomicBool::new(false),
             is_silent: AtomicBool::new(false),
             is_over: AtomicBool::new(false),
         })
@@ -155,6 +158,11 @@ impl Counts {
         self.looks.fetch_add(1, Ordering::SeqCst);
     }
 
+    /// Time passed; whether workloads and policies were told by then.
+    pub fn tick(&self, synced: bool) {
+        self.is_synced.store(synced, Ordering::SeqCst);
+    }
+
     /// No line of a note is written any more.
     pub fn silence(&self) {
         self.is_silent.store(true, Ordering::SeqCst);
@@ -178,6 +186,11 @@ impl Counts {
     /// The bytes back, of the tunnels that ended.
     pub fn down(&self) -> u64 {
         self.down.load(Ordering::SeqCst)
+    }
+
+    /// Whether workloads and policies were told, as of the last tick.
+    pub fn is_synced(&self) -> bool {
+        self.is_synced.load(Ordering::SeqCst)
     }
 
     /// Whether no line of a note is written any more.

@@ -8,10 +8,10 @@ use http_server::{Response, Service};
 use std::alloc::{AllocError, Global};
 use std::sync::Arc;
 
-/// The loop of a run that is ready was seen to look up within so many seconds.
-const READY: u64 = 10;
+/// A loop that turns was seen to look up within so many seconds.
+const TURNS: u64 = 10;
 
-/// Answers a GET of `/ready` and of `/metrics`, one to a connection.
+/// Answers a GET of `/live`, `/ready` and `/metrics`, one to a connection.
 #[derive(Drop)]
 pub(crate) struct Desk {
     pub alloc: Global,
@@ -28,13 +28,34 @@ fn add(response: &mut Response, text: &str, kind: HeaderValue) -> Result<(), All
 
 impl Desk {
     /// Whether the loop turns: it looked up, which it does once each door listens, and not too long ago.
-    fn add_ready(&self, response: &mut Response) -> Result<(), AllocError> {
-        let kind = HeaderValue::from_static("text/plain");
-        if self.counts.looks() > 0 && self.quiet <= READY {
-            return add(response, "ready\n", kind);
+    fn turns(&self) -> bool {
+        self.counts.looks() > 0 && self.quiet <= TURNS
+    }
+
+    /// What doesn't let the run be live, or ready.
+    fn lack(&self, needs_sync: bool) -> Option<&'static str> {
+        if !self.turns() {
+            return Some("the event loop doesn't turn\n");
         }
+        if needs_sync && !self.counts.is_synced() {
+            return Some("workloads and policies weren't told yet\n");
+        }
+        None
+    }
+
+    /// 200 with this text, or 503 with what lacks.
+    fn add_state(
+        &self,
+        response: &mut Response,
+        needs_sync: bool,
+        text: &'static str,
+    ) -> Result<(), AllocError> {
+        let kind = HeaderValue::from_static("text/plain");
+        let Some(lack) = self.lack(needs_sync) else {
+            return add(response, text, kind);
+        };
         response.status = StatusCode::SERVICE_UNAVAILABLE;
-        add(response, "the event loop doesn't turn\n", kind)
+        add(response, lack, kind)
     }
 
     fn add_metrics(&self, response: &mut Response) -> Result<(), AllocError> {
@@ -50,7 +71,8 @@ impl Desk {
             return response.add_header(header::ALLOW, HeaderValue::from_static("GET"));
         }
         match request.uri().path() {
-            "/ready" => self.add_ready(response),
+            "/live" => self.add_state(response, false, "live\n"),
+            "/ready" => self.add_state(response, true, "ready\n"),
             "/metrics" => self.add_metrics(response),
             _ => {
                 response.status = StatusCode::NOT_FOUND;

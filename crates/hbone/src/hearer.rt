@@ -47,6 +47,13 @@ impl<K: Polled + Drop> Audit for Hearer<K> {
         Noted::Kept
     }
 
+    /// What is told of the state says whether workloads and policies were told.
+    fn ticked(&self, synced: bool) {
+        if let Some(counts) = &self.counts {
+            counts.tick(synced);
+        }
+    }
+
     /// False: it tells no notes.
     fn holds(&self, _place: usize, _n: &Note) -> bool {
         false

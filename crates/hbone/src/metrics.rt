@@ -95,7 +95,7 @@ fn add_tunnels(text: &mut String, alloc: Global, counts: &Counts) -> Result<(), 
     add_sample(text, alloc, bytes, "{direction=\"down\"}", counts.down())
 }
 
-/// Adds what is known of the event loop, which was seen to look up so many seconds ago, and of the lines of notes.
+/// Adds what is known of the event loop, which was seen to look up so many seconds ago, of the control plane, and of the lines of notes.
 fn add_loop(text: &mut String, alloc: Global, counts: &Counts, quiet: u64) -> Result<(), NoMemory> {
     add_one(
         text,
@@ -112,6 +112,14 @@ fn add_loop(text: &mut String, alloc: Global, counts: &Counts, quiet: u64) -> Re
         "gauge",
         "Seconds since the event loop was seen to look up.",
         quiet,
+    )?;
+    add_one(
+        text,
+        alloc,
+        "hbone_synced",
+        "gauge",
+        "1 once workloads and policies were told, as of the last tick.",
+        u64::from(counts.is_synced()),
     )?;
     add_one(
         text,
