@@ -3,7 +3,7 @@
 import socket
 import threading
 
-from hyperframe.frame import GoAwayFrame, RstStreamFrame
+from hyperframe.frame import GoAwayFrame, RstStreamFrame, SettingsFrame
 
 from case import CANCEL, CONNECT_ERROR, case, full_server, payload, says
 from peers import HERE, OTHER, Peer, echo, mesh, silent, sink, until, wanted
@@ -45,6 +45,33 @@ def the_upstream_ends_first(room):
     peer.send(stream, payload(200_000), end=True)
     until("the upstream's end", lambda: up.one().ended or peer.step(0.01))
     wanted("at the upstream", (bytes(up.one().came) == payload(200_000), up.one().ended), (True, "end"))
+
+
+@case
+def an_end_at_a_window_below_zero(room):
+    """A smaller INITIAL_WINDOW_SIZE takes a stream's window below 0: END_STREAM goes all the same, in DATA without an octet, and octets
+    wait until the window is above 0."""
+    room.start()
+    may_go = threading.Event()
+    up = room.upstream(lambda taken: (taken.send(payload(40_000)), may_go.wait(10), taken.finish()))
+    longer = room.upstream(lambda taken: (taken.send(payload(20_000)), may_go.wait(10), taken.send(b"more"), taken.finish()))
+    peer = room.peer(grants=False)
+    stream, waits = peer.tunnel(up.port), peer.tunnel(longer.port)
+    peer.pump(lambda: (len(peer.came[stream]), len(peer.came[waits])) == (40_000, 20_000), "60,000 octets")
+    peer.conn.update_settings({SettingsFrame.INITIAL_WINDOW_SIZE: 1_000})
+    peer.pump(lambda: peer.conn.local_settings.initial_window_size == 1_000, "SETTINGS are acknowledged")
+    wanted("the windows", [peer.conn.remote_flow_control_window(it) for it in (stream, waits)], [-39_000, -19_000])
+    may_go.set()
+    peer.pump(lambda: stream in peer.ended, "END_STREAM")
+    peer.rest(0.2)
+    wanted("behind the windows", (len(peer.came[stream]), len(peer.came[waits]), waits in peer.ended), (40_000, 20_000, False))
+    peer.conn.increment_flow_control_window(19_001, waits)
+    peer.pump(lambda: len(peer.came[waits]) > 20_000, "an octet")
+    peer.rest(0.2)
+    wanted("at a window of 1", (len(peer.came[waits]), waits in peer.ended), (20_001, False))
+    peer.conn.increment_flow_control_window(3, waits)
+    peer.pump(lambda: waits in peer.ended, "END_STREAM")
+    wanted("at the peer", bytes(peer.came[waits]), payload(20_000) + b"more")
 
 
 @case
