@@ -5,28 +5,31 @@ use Rattle.hb_base.specs.declared.peer.Peer.{Peer}
 use Rattle.hb_base.specs.declared.target.Target.{Target}
 use Rattle.hb_front.specs.Reading.{Seen, IsAnswer, Whole}
 use Rattle.hb_held.specs.Held.{Resources}
+use Rattle.hb_inbound.proofs.Admitted.{KnowsBy}
 use Rattle.hb_inbound.proofs.AdmittedRun.{all_admit}
+use Rattle.hb_inbound.specs.Inbound.{Inbound, Phase, unborn}
 use Rattle.hb_inbound.specs.Part as part
 use Rattle.hb_inbound.specs.Part.{Part}
 use Rattle.hb_inbound.specs.Sides.{link_came}
-use Rattle.hb_inbound.specs.Tunnel.{Tunnel, takes_place}
+use Rattle.hb_inbound.specs.Tunnel.{Tunnel, unasked, due, takes_place}
 use Rattle.hb_laws.specs.Lawful.{Laws}
 use Rattle.hb_laws.proofs.Doors.{came_without, owner_without}
 use Rattle.hb_model.specs.Messages as messages
 use Rattle.hb_model.specs.declared.config.NodeConfig.{NodeConfig}
 use Rattle.hb_proxy.proofs.Owned.{all_owned}
 use Rattle.hb_proxy.proofs.Projection.{links_run, control_holds}
+use Rattle.hb_proxy.proofs.Stays.{is_born}
 use Rattle.hb_proxy.specs.Doors.{is_at_door, without_doors}
 use Rattle.hb_proxy.specs.Held.{at_start}
 use Rattle.hb_proxy.specs.Machine.{Machine, local}
-use Rattle.hb_proxy.specs.Owners.{Owner, nobody, owner, upstream_of}
+use Rattle.hb_proxy.specs.Owners.{Owner, nobody, owner, inbound_link, upstream_of}
 use Rattle.hb_proxy.specs.Points.{Point, of_link, entries, parts_of, control_of}
 use Rattle.hb_proxy.specs.Runs.{Steps, StandsFor}
 use Rattle.hb_table.specs.Judgement.{judged}
 use Rattle.hb_world.specs.Trace.{recv}
 use Rattle.hb_world.specs.declared.entry.Entry.{Entry}
 use Rattle.hb_world.specs.declared.entry.Entry.TheVariants as e
-use Rattle.hb_headline.specs.Access.{peer_in, Admits}
+use Rattle.hb_headline.specs.Access.{peer_in, Admits, AdmitsTo}
 use Rattle.hb_headline.specs.Dials.{IsDialled}
 use Rattle.hb_headline.proofs.Front.{header_of, who_in, who_told, header_stands}
 use Rattle.hb_headline.proofs.Targets.{all_fit}
@@ -102,3 +105,47 @@ module _ (g : NodeConfig) (x : Machine) (front : List Point) (run : StandsFor g 
         → Admits (messages.held g (control_of front)) before l s u
     admits_up y bytes steps =
         let may = steps.1.0.0 in admits_by may.2 (ap takes_place may.1) (header_of parts) refl
+
+-- WHERE A LINK IS DIALLED for a tunnel
+
+-- it is one of a link that was born
+born_so : (phase : Phase) (x : Inbound) (parts : List Part) (s : ℕ) → KnowsBy phase parts x → (x.tunnels s).stage ≡ due
+    → is_born phase ≡ true
+born_so unborn x parts s knows is = absurd (let no : unasked ≡ due = sym (knows s) ∙ is in cc)
+born_so _ x parts s knows is = refl
+
+module _ (g : NodeConfig) (x y : Machine) (front : List Point) (run : StandsFor g x front) (before : List Entry)
+    (before_is : entries front ≡ without_doors before) (laws : Laws g front) (l s u : ℕ) (to : Target)
+    (steps : Steps g x (of_link l (part.up s (e.Dialled u to (whys.Upstream l s)))) y)
+  where
+    abbrev due_tunnel : Tunnel
+    due_tunnel = (x.inbound l).tunnels s
+
+    place : takes_place due_tunnel.stage ≡ true
+    place = ap takes_place steps.1.0.1
+
+    own_link : owner l (entries front) ≡ inbound_link
+    own_link =
+        (all_owned g x front run).link l
+        (born_so (x.inbound l).phase (x.inbound l) (parts_of l front) s
+        (all_admit l (at_start g) (local x l) (parts_of l front) (links_run g x front l run)).knows steps.1.0.1)
+
+    admits_by_header : (o : Option Seen) → header_of (parts_of l front) ≡ o → AdmitsTo (messages.held g (control_of front)) before l to
+    admits_by_header None is =
+        let told = ((all_admit l (at_start g) (local x l) (parts_of l front) (links_run g x front l run)).each s place).peer_is in
+        absurd (let no : None ≡ Some (x.inbound l).peer = sym (who_told (parts_of l front) None ∙ ap who_in is) ∙ told in cc)
+    admits_by_header (Some seen) is =
+        let admit = (all_admit l (at_start g) (local x l) (parts_of l front) (links_run g x front l run)).each s place in
+        let peers : Some (peer_in seen) ≡ Some (x.inbound l).peer = sym (who_told (parts_of l front) None ∙ ap who_in is) ∙ admit.peer_is in
+        let peer : peer_in seen ≡ (x.inbound l).peer = cc in
+        let came = sym (laws.sides.link l own_link).came ∙ ap (recv l) before_is ∙ came_without l before in
+        record {
+          seen = seen;
+          fronted = subst (λ (bs : List ℕ). IsAnswer bs (Whole seen)) came
+              (header_stands l (at_start g) (local x l) (parts_of l front) (links_run g x front l run) seen is);
+          admitted = ap₂ (λ (h : Resources) (p : Peer). judged h p to) (sym (control_holds g x front run)) peer
+              ∙ ap (judged x.control.held (x.inbound l).peer) steps.1.0.3 ∙ admit.admitted;
+        }
+
+    pub dial_admitted : AdmitsTo (messages.held g (control_of front)) before l to
+    dial_admitted = admits_by_header (header_of (parts_of l front)) refl

@@ -94,7 +94,7 @@ module _ (g : NodeConfig) (x : Machine) (front : List Point) (run : StandsFor g 
 
     -- the frames that have begun there are in front of those that begin later
     module _ (frames old later : List RawFrame) (is : frames ≡ old ++ later) (one : IsOne parts link old) where
-      begun_same : owner l before ≡ inbound_link → begun_on l frames before ≡ old
+      pub begun_same : owner l before ≡ inbound_link → begun_on l frames before ≡ old
       begun_same own =
           let went : link_went parts ≡ sent l before =
           sym (laws.sides.link l (same_owner l ∙ own)).went ∙ ap (sent l) before_is ∙ went_without l before in

@@ -1,5 +1,5 @@
 -- The front of a run's points that a front of its trace has.
-use Rattle.std.proofs.Common.{◌≡◌, ◌⊎◌, inl, inr, ℕ, ◌-◌, ◌≤◌, Bool, true, false, cond, List, [], ◌∷◌, ◌++◌, length, refl, ap, sym, ◌∙◌, arith, length-append}
+use Rattle.std.proofs.Common.{◌≡◌, ◌⊎◌, inl, inr, ⊎_elim, ℕ, ◌-◌, ◌≤◌, Bool, true, false, cond, List, [], ◌∷◌, ◌++◌, length, refl, ap, sym, ◌∙◌, arith, length-append}
 use Rattle.std.specs.Prelude.{nat_le}
 use Rattle.std.proofs.lemmas.Bool.Decides.{nat_tests}
 use Rattle.hb_proxy.proofs.Places.{short}
@@ -101,3 +101,17 @@ place_at (q ∷ front) p rest z told =
     ∙ ap (λ (m : ℕ). q ∷ front_at m (front ++ p ∷ rest))
     (let less : n - length (entry_in q) ≡ length (entries front) = omega (arith, size) in less)
     ∙ ap (λ (ps : List Point). q ∷ ps) (place_at front p rest z told)
+
+-- two parts of one list: all of it, or in front of its last
+pub split_last : {A : Type 0} (body : List A) (z : A) (before after : List A) → body ++ z ∷ [] ≡ before ++ after
+    → (before ≡ body ++ z ∷ []) ⊎ ((more : List A) × (body ≡ before ++ more))
+split_last body z [] after is = inr (body, refl)
+split_last [] z (b ∷ []) after is = inl (let same : b ≡ z = cc in ap (λ x. x ∷ []) same)
+split_last [] z (b ∷ c ∷ before) after is = absurd cc
+split_last (x ∷ body) z (b ∷ before) after is =
+    let first : x ≡ b = cc in
+    let others : body ++ z ∷ [] ≡ before ++ after = cc in
+    ⊎_elim
+    (λ (all : before ≡ body ++ z ∷ []). inl (let same : b ∷ before ≡ x ∷ (body ++ z ∷ []) = cc in same))
+    (λ (part : (more : List _) × (body ≡ before ++ more)). inr (part.0, (let same : body ≡ before ++ part.0 = part.1 in cc)))
+    (split_last body z before after others)

@@ -1,5 +1,5 @@
 -- A life of a tunnel meets the headline.
-use Rattle.std.proofs.Common.{◌≡◌, ◌≢◌, ◌⊎◌, inl, inr, ⊎_elim, ℕ, ◌<◌, ◌-◌, ◌==◌, ◌||◌, Bool, true, false, cond, List, [], ◌∷◌, ◌++◌, length, drop, map, fold, None, Ok, refl, ap, ap₂, sym, ◌∙◌, subst, arith}
+use Rattle.std.proofs.Common.{◌≡◌, ◌≢◌, ◌⊎◌, inl, inr, ⊎_elim, ℕ, ◌+◌, ◌<◌, ◌≤◌, ◌-◌, ◌==◌, ◌||◌, Bool, true, false, cond, List, [], ◌∷◌, ◌++◌, length, drop, map, fold, None, Ok, refl, ap, ap₂, sym, ◌∙◌, subst, arith, length-append}
 use Rattle.std.specs.List.{flat_map, list_any}
 use Rattle.std.proofs.lemmas.Bool.{false≢true, eqb-true}
 use Rattle.std.proofs.lemmas.List.{append-nil, append_assoc, take_all}
@@ -8,10 +8,12 @@ use Rattle.hb_base.specs.declared.door.Door.TheVariants as door
 use Rattle.hb_base.specs.declared.door.Why.{Why}
 use Rattle.hb_base.specs.declared.door.Why.TheVariants as whys
 use Rattle.hb_base.specs.declared.target.Target.{Target}
+use Rattle.hb_conn.specs.Preface.{octets}
 use Rattle.hb_disco.specs.Response.{response_of}
 use Rattle.hb_disco.specs.declared.response.Response.{Response}
 use Rattle.hb_frames.specs.Frames.{HasNoFrame}
 use Rattle.hb_frames.specs.Bodies.{lent_of}
+use Rattle.hb_frames.specs.Numbers.{first_frame_size}
 use Rattle.hb_frames.specs.RawFrame.{RawFrame, Spells, spelling}
 use Rattle.hb_front.specs.Reading.{Seen, IsAnswer, Whole}
 use Rattle.hb_front.specs.Written.{header_of, front_text}
@@ -25,36 +27,26 @@ use Rattle.hb_model.specs.Discovery.{longest_message}
 use Rattle.hb_model.specs.declared.config.NodeConfig.{NodeConfig}
 use Rattle.hb_outgoing.specs.Written.{begun_in}
 use Rattle.hb_proxy.specs.Held.{at_start}
-use Rattle.hb_proxy.specs.Owners.{Owner, nobody, control_plane, inbound_link, upstream_of, relay_of, at_door, dialled_for, owner_by, owner}
+use Rattle.hb_proxy.specs.Owners.{Owner, nobody, control_plane, inbound_link, upstream_of, relay_of, gateway_link, at_door, dialled_for, owner_by, owner}
 use Rattle.hb_table.specs.Judgement.{judged}
 use Rattle.hb_table.specs.declared.judgement.Judged.TheVariants.{Admitted}
+use Rattle.hb_tunnel.specs.Tunnel.{down_size}
 use Rattle.hb_world.specs.Trace.{recv, sent, came_on, went_on}
 use Rattle.hb_world.specs.declared.entry.Entry.{Entry}
 use Rattle.hb_world.specs.declared.entry.Entry.TheVariants as e
-use Rattle.hb_headline.specs.Access.{Admits, GoesAdmitted}
+use Rattle.hb_headline.specs.Access.{Admits, AdmitsTo, GoesAdmitted, TriesAdmitted}
 use Rattle.hb_headline.specs.Dials.{IsDialled, UpstreamIs}
 use Rattle.hb_headline.specs.Good.{data_of, told_so, tunnelled, life, LifeMeetsTheHeadline}
 use Rattle.hb_headline.specs.Headline.{Headline}
 use Rattle.hb_headline.specs.Held.{Applied, AreRead, AllRead, AreTold, made_by, on_link}
 use Rattle.hb_headline.specs.Relay.{IsFront, TunnelRelaysUp, LinkRelaysDown, begun_on, data_with}
+use Rattle.hb_headline.specs.Windows.{AreFirst, AreClients, IsGranted, KeepsWindows, Windows}
 use Rattle.hb_headline.proofs.Dials.{is_dialled}
+use Rattle.hb_headline.proofs.Fronts.{split_last}
 use Rattle.hb_headline.proofs.OneTarget.{one_dial}
 use Rattle.hb_headline.proofs.Refused.{no_messages, the_first}
 use Rattle.hb_headline.proofs.Relay.{none_first}
-
--- two parts of one list: all of it, or in front of its last
-split_last : {A : Type 0} (body : List A) (z : A) (before after : List A) → body ++ z ∷ [] ≡ before ++ after
-    → (before ≡ body ++ z ∷ []) ⊎ ((more : List A) × (body ≡ before ++ more))
-split_last body z [] after is = inr (body, refl)
-split_last [] z (b ∷ []) after is = inl (let same : b ≡ z = cc in ap (λ x. x ∷ []) same)
-split_last [] z (b ∷ c ∷ before) after is = absurd cc
-split_last (x ∷ body) z (b ∷ before) after is =
-    let first : x ≡ b = cc in
-    let others : body ++ z ∷ [] ≡ before ++ after = cc in
-    ⊎_elim
-    (λ (all : before ≡ body ++ z ∷ []). inl (let same : b ∷ before ≡ x ∷ (body ++ z ∷ []) = cc in same))
-    (λ (part : (more : List _) × (body ≡ before ++ more)). inr (part.0, (let same : body ≡ before ++ part.0 = part.1 in cc)))
-    (split_last body z before after others)
+use Rattle.hb_headline.proofs.Windows.{itself}
 
 -- two cuts of one list: one of the fronts is a front of the other
 cuts : {A : Type 0} (xs ys before after : List A) → xs ++ ys ≡ before ++ after
@@ -69,6 +61,10 @@ cuts (x ∷ xs) ys (b ∷ before) after is =
     (λ (long : (more : List _) × (before ≡ xs ++ more) × (ys ≡ more ++ after)).
     inr (long.0, (let same : before ≡ xs ++ long.0 = long.1 in cc), long.2))
     (cuts xs ys before after others)
+
+no_place : (before : List Entry) (z : Entry) (after : List Entry) → [] ≡ before ++ z ∷ after → ⊥
+no_place [] z after is = cc
+no_place (p ∷ before) z after is = cc
 
 -- whose a link is an entry of its birth tells
 abbrev births_as : (Owner → Bool) → Entry → Bool
@@ -125,6 +121,19 @@ no_frame f spelled more spells is =
 pub lent_whole : (bytes : List ℕ) → lent_of (data_of bytes) ≡ bytes
 lent_whole bytes = take_all (length bytes - 0 - 0) bytes (omega arith)
 
+-- the header that stands in front of what came
+abbrev pub seen : Seen
+seen = record { source = source; destination = destination; identity = None; length = 28 }
+
+pub fronted : (more : List ℕ) → IsAnswer (front_text source destination None ++ more) (Whole seen)
+fronted more = (
+  header_of source destination None,
+  record { source = refl; destination = refl; source_port = omega arith; destination_port = omega arith; tlvs = tt; size = omega arith },
+  record { source = refl; source_port = refl; destination = refl; destination_port = refl; identity = refl; size = refl },
+  more,
+  refl,
+)
+
 module _ (g : NodeConfig) (at to : Target) (bytes : List ℕ) (r : Response) (up down : ℕ) (small : length bytes < 16777216)
     (read : map response_of (framed_of longest_message bytes).messages ≡ Ok r ∷ [])
     (admitted : judged (after_response (at_start g) r) (record { ip = source.ip; identity = None }) to ≡ Admitted) where
@@ -155,6 +164,15 @@ module _ (g : NodeConfig) (at to : Target) (bytes : List ℕ) (r : Response) (up
       by false true c is = refl
       by false false true is = absurd cc
       by false false false is = absurd cc
+
+  no_gateway : (u : ℕ) → whose u ≡ gateway_link → ⊥
+  no_gateway u own = by (3 == u) (2 == u) (1 == u) own
+    where
+      by : (a b c : Bool) → cond a (upstream_of 2 1) (cond b inbound_link (cond c control_plane nobody)) ≡ gateway_link → ⊥
+      by true b c is = cc
+      by false true c is = cc
+      by false false true is = cc
+      by false false false is = cc
 
   is_upstream : (u l s : ℕ) → whose u ≡ upstream_of l s → (u ≡ 3) × (l ≡ 2) × (s ≡ 1)
   is_upstream u l s own = let is = by (3 == u) (2 == u) (1 == u) own in (sym (eqb-true 3 u is.0), is.1, is.2)
@@ -197,20 +215,6 @@ module _ (g : NodeConfig) (at to : Target) (bytes : List ℕ) (r : Response) (up
           (ap (λ (d : Upstream). d.up) same, ap (λ (d : Upstream). d.link) same, ap (λ (d : Upstream). d.stream) same)
       by (x ∷ front) rest is =
           absurd (none front rest (upstream u l s) (let others : front ++ upstream u l s ∷ rest ≡ [] = cc in others))
-
-  -- THE HEADER
-
-  abbrev seen : Seen
-  seen = record { source = source; destination = destination; identity = None; length = 28 }
-
-  fronted : (more : List ℕ) → IsAnswer (front_text source destination None ++ more) (Whole seen)
-  fronted more = (
-    header_of source destination None,
-    record { source = refl; destination = refl; source_port = omega arith; destination_port = omega arith; tlvs = tt; size = omega arith },
-    record { source = refl; source_port = refl; destination = refl; destination_port = refl; identity = refl; size = refl },
-    more,
-    refl,
-  )
 
   -- THE PREFIX
 
@@ -489,11 +493,31 @@ module _ (g : NodeConfig) (at to : Target) (bytes : List ℕ) (r : Response) (up
       (subst (λ (k : ℕ). GoesAdmitted (made_by g (applied body)) frames body k bs) link
       (subst (GoesAdmitted (made_by g (applied body)) frames body 2) went goes_down))
   goes (a ∷ b ∷ c ∷ d ∷ x ∷ y ∷ z ∷ v ∷ w ∷ t ∷ before) u bs after are =
-      absurd (no_more before (let rest : [] ≡ before ++ e.Went u bs ∷ after = cc in rest))
-    where
-      no_more : (before : List Entry) → [] ≡ before ++ e.Went u bs ∷ after → ⊥
-      no_more [] is = cc
-      no_more (p ∷ before) is = cc
+      absurd (no_place before (e.Went u bs) after (let rest : [] ≡ before ++ e.Went u bs ∷ after = cc in rest))
+
+  -- TRIED
+  tries : (before : List Entry) (u : ℕ) (other : Target) (why : Why) (after : List Entry)
+      → trace ≡ before ++ e.Dialled u other why ∷ after → TriesAdmitted (made_by g (applied before)) before other why
+  tries [] u other why after are =
+      let is : whys.Discovery ≡ why = cc in subst (TriesAdmitted (made_by g (applied [])) [] other) is tt
+  tries (a ∷ []) u other why after are = absurd cc
+  tries (a ∷ b ∷ []) u other why after are = absurd cc
+  tries (a ∷ b ∷ c ∷ []) u other why after are = absurd cc
+  tries (a ∷ b ∷ c ∷ d ∷ []) u other why after are = absurd cc
+  tries (a ∷ b ∷ c ∷ d ∷ x ∷ []) u other why after are =
+      let before : opening ≡ a ∷ b ∷ c ∷ d ∷ x ∷ [] = cc in
+      let is : whys.Upstream 2 1 ≡ why = cc in
+      let there : to ≡ other = cc in
+      subst (λ (es : List Entry). TriesAdmitted (made_by g (applied es)) es other why) before
+      (subst (TriesAdmitted (made_by g (applied opening)) opening other) is
+      (subst (AdmitsTo (made_by g (applied opening)) opening 2) there
+      (record { seen = seen; fronted = fronted (drop 28 (recv 2 trace)); admitted = admitted })))
+  tries (a ∷ b ∷ c ∷ d ∷ x ∷ y ∷ []) u other why after are = absurd cc
+  tries (a ∷ b ∷ c ∷ d ∷ x ∷ y ∷ z ∷ []) u other why after are = absurd cc
+  tries (a ∷ b ∷ c ∷ d ∷ x ∷ y ∷ z ∷ v ∷ []) u other why after are = absurd cc
+  tries (a ∷ b ∷ c ∷ d ∷ x ∷ y ∷ z ∷ v ∷ w ∷ []) u other why after are = absurd cc
+  tries (a ∷ b ∷ c ∷ d ∷ x ∷ y ∷ z ∷ v ∷ w ∷ t ∷ before) u other why after are =
+      absurd (no_place before (e.Dialled u other why) after (let rest : [] ≡ before ++ e.Dialled u other why ∷ after = cc in rest))
 
   -- REVOKED
   abbrev behind_dial : List Entry
@@ -532,8 +556,87 @@ module _ (g : NodeConfig) (at to : Target) (bytes : List ℕ) (r : Response) (up
       (stands_by long.0 after long.2 (ap (owner 3) (sym long.1) ∙ mine)))
       (cuts opening later before after are))))
 
+  -- WINDOWS
+
+  -- nothing goes on another link than the upstream and the inbound one; there one frame begins, with an octet
+  link_fits : (before : List Entry) (u : ℕ) (bs : List ℕ) (after : List Entry) → trace ≡ before ++ e.Went u bs ∷ after → (u ≡ 3) ⊎ (u ≡ 2)
+  link_fits [] u bs after are = absurd cc
+  link_fits (a ∷ []) u bs after are = absurd cc
+  link_fits (a ∷ b ∷ []) u bs after are = absurd cc
+  link_fits (a ∷ b ∷ c ∷ []) u bs after are = absurd cc
+  link_fits (a ∷ b ∷ c ∷ d ∷ []) u bs after are = absurd cc
+  link_fits (a ∷ b ∷ c ∷ d ∷ x ∷ []) u bs after are = absurd cc
+  link_fits (a ∷ b ∷ c ∷ d ∷ x ∷ y ∷ []) u bs after are = absurd cc
+  link_fits (a ∷ b ∷ c ∷ d ∷ x ∷ y ∷ z ∷ []) u bs after are = inl (let link : 3 ≡ u = cc in sym link)
+  link_fits (a ∷ b ∷ c ∷ d ∷ x ∷ y ∷ z ∷ v ∷ []) u bs after are = absurd cc
+  link_fits (a ∷ b ∷ c ∷ d ∷ x ∷ y ∷ z ∷ v ∷ w ∷ []) u bs after are = inr (let link : 2 ≡ u = cc in sym link)
+  link_fits (a ∷ b ∷ c ∷ d ∷ x ∷ y ∷ z ∷ v ∷ w ∷ t ∷ before) u bs after are =
+      absurd (no_place before (e.Went u bs) after (let rest : [] ≡ before ++ e.Went u bs ∷ after = cc in rest))
+
+  -- so nothing goes on the link to the control plane
+  none_goes : (before : List Entry) (bs : List ℕ) (after : List Entry) → trace ≡ before ++ e.Went 1 bs ∷ after → ⊥
+  none_goes before bs after are =
+      ⊎_elim (λ is. absurd (omega (arith, is))) (λ is. absurd (omega (arith, is))) (link_fits before 1 bs after are)
+
+  one_begins : (front : List RawFrame) (f : RawFrame) (behind : List RawFrame) → data_with down ∷ [] ≡ front ++ f ∷ behind
+      → IsGranted f front []
+  one_begins [] f behind is =
+      let same : data_with down ≡ f = cc in
+      subst (λ (x : RawFrame). IsGranted x [] []) same
+      (record {
+        acknowledged = omega arith;
+        fits = record { size = omega arith; connection = omega arith; stream = omega arith };
+      })
+  one_begins (x ∷ front) f behind is = absurd (no_frame_there front (let rest : [] ≡ front ++ f ∷ behind = cc in rest))
+    where
+      no_frame_there : (fs : List RawFrame) → [] ≡ fs ++ f ∷ behind → ⊥
+      no_frame_there [] is = cc
+      no_frame_there (p ∷ fs) is = cc
+
+  within : Windows trace frames
+  within = record {
+    inbound = λ l own.
+        subst (λ (k : ℕ). KeepsWindows [] AreClients (frames k) trace k) (sym (is_inbound l own))
+        (record {
+          went = record { rest = []; is = refl };
+          fit = λ before bs after are front f behind frames_are unbegun starts some. ([], inl refl, one_begins front f behind frames_are);
+        });
+    control = λ d control.
+        subst (λ (k : ℕ). (began : List RawFrame) × KeepsWindows octets AreFirst began trace k)
+        (sym (the_first d control)) (
+          [],
+          record {
+            went = record { rest = octets ++ []; is = refl };
+            fit = λ before bs after are front f behind frames_are unbegun starts some. absurd (none_goes before bs after are);
+          },
+        );
+    gateways = λ n own. absurd (no_gateway n own);
+  }
+
+  -- BUFFERS
+  come_fits : (before : List Entry) (u : ℕ) (bs : List ℕ) (after : List Entry) → trace ≡ before ++ e.Came u bs ∷ after → (l s : ℕ)
+      → owner u before ≡ upstream_of l s
+      → length (recv u before) + length bs ≤ length (payloads s (begun_on l (frames l) before)) + first_frame_size + down_size
+  come_fits before u bs after are l s own =
+      let is = one_upstream before (e.Came u bs ∷ after) are l s u own in
+      let here = ap (λ (b : Bool). cond b bs []) (itself u) in
+      omega (
+        arith,
+        ap (λ (xs : List ℕ). length xs)
+            (sym (flat_map-append (came_on u) before (e.Came u bs ∷ after)) ∙ sym (ap (recv u) are) ∙ ap (λ (k : ℕ). recv k trace) is.0),
+        length-append (recv u before) (came_on u (e.Came u bs) ++ recv u after),
+        length-append (came_on u (e.Came u bs)) (recv u after),
+        ap (λ (xs : List ℕ). length xs) here,
+      )
+
   lives : Headline g trace
   lives = record {
+    windows = within;
+    tried = tries;
+    buffers = record {
+      plain = λ before z after are more l u own. absurd (no_relay before (z ∷ after) are u l own);
+      tunnels = λ before u bs after are l s own. come_fits before u bs after are l s own;
+    };
     frames = frames;
     applied = applied;
     prefix = record {

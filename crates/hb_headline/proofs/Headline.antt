@@ -4,6 +4,9 @@ use Rattle.std.specs.List.{flat_map}
 use Rattle.std.proofs.lemmas.List.{append-nil, append_assoc}
 use Rattle.std.proofs.lemmas.List.Concat.{flat_map-append}
 use Rattle.hb_base.specs.declared.door.Door.TheVariants as door
+use Rattle.hb_base.specs.declared.door.Why.{Why}
+use Rattle.hb_base.specs.declared.door.Why.TheVariants as whys
+use Rattle.hb_base.specs.declared.target.Target.{Target}
 use Rattle.hb_captured.specs.Captured.{judges}
 use Rattle.hb_captured.specs.Sides.{door_of}
 use Rattle.hb_conn.specs.Observed.{outgoing}
@@ -16,7 +19,7 @@ use Rattle.hb_laws.proofs.Doors.{without_append, owner_without}
 use Rattle.hb_laws.proofs.Living.{all_closed}
 use Rattle.hb_laws.specs.RefusedTunnels.{is_more}
 use Rattle.hb_laws.proofs.Lawful.{Goes, goes_at, own_in, laws_of}
-use Rattle.hb_laws.proofs.Places.{Place, IsOwn, place, of_somebody, of_inbound, of_upstream}
+use Rattle.hb_laws.proofs.Places.{Place, IsOwn, place, dial_point, of_somebody, of_inbound, of_upstream}
 use Rattle.hb_laws.specs.Lawful.{Lawful, Laws}
 use Rattle.hb_model.specs.Messages as messages
 use Rattle.hb_model.specs.declared.config.NodeConfig.{NodeConfig}
@@ -24,18 +27,20 @@ use Rattle.hb_proxy.proofs.Owned.{all_owned}
 use Rattle.hb_proxy.specs.Access.{PlainIsAdmitted}
 use Rattle.hb_proxy.specs.Doors.{without_doors}
 use Rattle.hb_proxy.specs.Machine.{Machine}
-use Rattle.hb_proxy.specs.Owners.{owner, inbound_link, upstream_of, plain_link}
+use Rattle.hb_proxy.specs.Owners.{owner, inbound_link, upstream_of, plain_link, relay_of}
 use Rattle.hb_proxy.specs.Points.{Point, entries, control_of, control_in, parts_of, plain_of}
 use Rattle.hb_proxy.specs.Runs.{Steps, StandsFor}
 use Rattle.hb_world.specs.Trace.{sent}
 use Rattle.hb_world.specs.declared.entry.Entry.{Entry}
 use Rattle.hb_world.specs.declared.entry.Entry.TheVariants as e
-use Rattle.hb_headline.specs.Access.{Admits, AreAdmitted, door_at, AdmitsPlain, GoesAdmitted, Stands}
+use Rattle.hb_headline.specs.Access.{Admits, AdmitsTo, AreAdmitted, door_at, AdmitsPlain, GoesAdmitted, Stands, TriesAdmitted}
+use Rattle.hb_headline.specs.Buffers.{PlainFits}
 use Rattle.hb_headline.specs.Headline.{LawfulKeepsTheHeadline}
 use Rattle.hb_headline.specs.Held.{Applied, on_link, AllRead, Holds, made_by}
 use Rattle.hb_headline.specs.Relay.{PlainRelays, TunnelRelaysUp, LinkRelaysDown, begin_with, BeganIsNotOne, data_with}
-use Rattle.hb_headline.proofs.Access.{admits_up}
+use Rattle.hb_headline.proofs.Access.{admits_up, dial_admitted}
 use Rattle.hb_headline.proofs.AtOnce.{all_read}
+use Rattle.hb_headline.proofs.Buffers.{plain_fits, down_fits}
 use Rattle.hb_headline.proofs.Dials.{lawful_upstreams}
 use Rattle.hb_headline.proofs.Down.{relayed, unasked_none, down_admitted}
 use Rattle.hb_headline.proofs.Fronts.{front_at, split_at, grows_at, entries_at, place_at}
@@ -43,10 +48,12 @@ use Rattle.hb_headline.proofs.Held.{applied_in, applied_of, are_told, made_is}
 use Rattle.hb_headline.proofs.OneLink.{IsOne}
 use Rattle.hb_headline.proofs.OneList.{PlaceIs, AllBegin, all_begin, new_on}
 use Rattle.hb_headline.proofs.PlainAccess.{judges_it, admits}
-use Rattle.hb_headline.proofs.PlainRevoked.{relay_admitted}
+use Rattle.hb_headline.proofs.PlainRevoked.{relay_admitted, plain_dial_admitted}
 use Rattle.hb_headline.proofs.Revoked.{more_stays, stands_admitted}
 use Rattle.hb_headline.proofs.Relay.{went_is, owner_is, relays_plain}
+use Rattle.hb_headline.proofs.GateWindows.{gate_keeps}
 use Rattle.hb_headline.proofs.RelayUp.{relays_up}
+use Rattle.hb_headline.proofs.Windows.{link_keeps, plane_keeps}
 
 module _ (g : NodeConfig) (trace : List Entry) (h : Lawful g trace) where
   -- the points of a front of the trace
@@ -193,6 +200,39 @@ module _ (g : NodeConfig) (trace : List Entry) (h : Lawful g trace) where
             relay_admitted g goes.machine at.front goes.run before at.before_is laws closed l u own living at_door;
       })
 
+  -- and what waits on plain links fits their rings
+  waits : (before : List Entry) (z : Entry) (after : List Entry) → trace ≡ before ++ z ∷ after → is_more z ≡ true
+      → (l u : ℕ) → owner u before ≡ relay_of l → PlainFits before l u
+  waits before z after are more =
+      let stays = more_stays z after more in
+      let at = place_there before z after are stays in
+      let goes = goes_at g trace h at.front at.p at.rest at.points_are in
+      plain_fits g goes.machine at.front goes.run before at.before_is (h.laws at.front (at.p ∷ at.rest) at.points_are)
+      (all_closed g trace h at.front at.p at.rest z at.points_are at.is more)
+
+  -- where a link is dialled
+  dials : (before : List Entry) (u : ℕ) (to : Target) (why : Why) (after : List Entry) → trace ≡ before ++ e.Dialled u to why ∷ after
+      → TriesAdmitted (made_by g (applied before)) before to why
+  dials before u to (whys.Upstream l s) after are =
+      let z = e.Dialled u to (whys.Upstream l s) in
+      let at = place_there before z after are refl in
+      let goes = goes_at g trace h at.front at.p at.rest at.points_are in
+      let p_is = dial_point g goes.machine goes.next at.p u to (whys.Upstream l s) goes.steps at.is in
+      by_responses before z after are refl (λ held. AdmitsTo held before l to)
+      (dial_admitted g goes.machine goes.next at.front goes.run before at.before_is
+      (h.laws at.front (at.p ∷ at.rest) at.points_are) l s u to
+      (subst (λ (q : Point). Steps g goes.machine q goes.next) p_is goes.steps))
+  dials before u to (whys.Plain l) after are =
+      let z = e.Dialled u to (whys.Plain l) in
+      let at = place_there before z after are refl in
+      let goes = goes_at g trace h at.front at.p at.rest at.points_are in
+      let p_is = dial_point g goes.machine goes.next at.p u to (whys.Plain l) goes.steps at.is in
+      by_responses before z after are refl (λ held. AdmitsPlain held before l)
+      (plain_dial_admitted g goes.machine goes.next at.front goes.run before at.before_is
+      (h.laws at.front (at.p ∷ at.rest) at.points_are) l u to
+      (subst (λ (q : Point). Steps g goes.machine q goes.next) p_is goes.steps))
+  dials before u to _ after are = tt
+
   -- WHERE BYTES GO
   module _ (before : List Entry) (u : ℕ) (bytes : List ℕ) (after : List Entry) (are : trace ≡ before ++ e.Went u bytes ∷ after) where
     abbrev z : Entry
@@ -254,6 +294,13 @@ keeps_the_headline g trace h = record {
   held = holds g trace h;
   admitted = goes_admitted g trace h;
   revoked = stands g trace h;
+  windows = record {
+    inbound = link_keeps g trace h;
+    control = plane_keeps g trace h;
+    gateways = gate_keeps g trace h;
+  };
+  tried = dials g trace h;
+  buffers = record { plain = waits g trace h; tunnels = down_fits g trace h };
 }
 
 pub began_is_not_one : BeganIsNotOne

@@ -1,12 +1,16 @@
 pub mod Access
 pub mod AtOnce
 pub mod Begun
+pub mod Beyond
+pub mod Buffers
 pub mod Chunks
 pub mod DataCame
 pub mod Dials
 pub mod Down
 pub mod Front
 pub mod Fronts
+pub mod Granted
+pub mod GateWindows
 pub mod Good
 pub mod Headline
 pub mod Held
@@ -15,6 +19,7 @@ pub mod OneFrame
 pub mod OneLink
 pub mod OneList
 pub mod OneTarget
+pub mod Overrun
 pub mod PlainAccess
 pub mod PlainRevoked
 pub mod Refused
@@ -25,3 +30,4 @@ pub mod Revoking
 pub mod Shut
 pub mod Targets
 pub mod Tunnels
+pub mod Windows

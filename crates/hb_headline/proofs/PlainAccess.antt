@@ -40,9 +40,11 @@ door_without l trace =
 module _ (g : NodeConfig) (x : Machine) (front : List Point) (run : StandsFor g x front) (before : List Entry)
     (before_is : entries front ≡ without_doors before) (laws : Laws g front) (l : ℕ) (own : owner l (entries front) ≡ plain_link)
   where
+    pub door_is : door_of (plain_of l front) ≡ door_at l before
+    door_is = door_told l g x front run own ∙ ap (door_at l) before_is ∙ door_without l before
+
     pub judges_it : door_at l before ≡ door.Plain → judges (door_of (plain_of l front)) ≡ true
-    judges_it at =
-        ap judges (door_told l g x front run own ∙ ap (door_at l) before_is ∙ door_without l before ∙ at)
+    judges_it at = ap judges (door_is ∙ at)
 
     pub admits : PlainIsAdmitted g front l → AdmitsPlain (held g (control_of front)) before l
     admits is = record {

@@ -26,7 +26,7 @@ use Rattle.hb_world.specs.declared.entry.Entry.{Entry}
 use Rattle.hb_world.specs.declared.entry.Entry.TheVariants as e
 use Rattle.hb_headline.specs.Access.{AdmitsPlain, peer_in, Admits, AreAdmitted}
 use Rattle.hb_headline.specs.Held.{Applied, AreRead, AreTold, made_by, on_link}
-use Rattle.hb_headline.specs.Refused.{SendsUnfronted, TunnelsUnfronted, InventsBack, SendsEarly, invented, InventsData, unasked, SendsUnasked, DialsTwice, DialsElsewhere, AdmitsElsewhere, AdmitsUntold, untold, AdmitsForged, unanswered, SendsUnborn, CutsUnadmitted, KeepsUnadmitted, plain_untold, RelaysUntold, KeepsPlain}
+use Rattle.hb_headline.specs.Refused.{SendsUnfronted, TunnelsUnfronted, InventsBack, SendsEarly, invented, InventsData, unasked, SendsUnasked, DialsTwice, DialsElsewhere, AdmitsElsewhere, AdmitsUntold, DialsUntold, DialsPlainUntold, untold, AdmitsForged, unanswered, SendsUnborn, CutsUnadmitted, KeepsUnadmitted, plain_untold, RelaysUntold, KeepsPlain}
 use Rattle.hb_headline.specs.Relay.{IsFront, data_on, data_with}
 use Rattle.hb_headline.proofs.Relay.{none_first}
 use Rattle.hb_headline.proofs.OneFrame.{one_frame}
@@ -120,6 +120,24 @@ admits_untold to came bytes g met =
     let told = met.held.told before (e.Went 2 bytes ∷ []) refl in
     let none = none_applied before (met.applied before) (λ d control. false≢true control) told in
     none_admitted g (met.applied before) before 1 1 2 none ((met.admitted before 2 bytes [] refl).up 1 1 refl)
+
+pub dials_untold : DialsUntold
+dials_untold to came g met =
+    let before = e.Accepted 1 door.Inbound ∷ e.Came 1 came ∷ [] in
+    let dial = e.Dialled 2 to (whys.Upstream 1 1) in
+    let told = met.held.told before (dial ∷ []) refl in
+    let none = none_applied before (met.applied before) (λ d control. false≢true control) told in
+    let is = met.tried before 2 to (whys.Upstream 1 1) [] refl in
+    nobody_admitted (made_by g (met.applied before)) (peer_in is.seen) to
+    (ap (λ (some : List Applied). len (made_by g some).addresses) none ∙ len-empty (slice_cmp nat_cmp) _) is.admitted
+
+pub dials_plain_untold : DialsPlainUntold
+dials_plain_untold to came g met =
+    let before = e.Accepted 1 door.Plain ∷ e.Came 1 came ∷ [] in
+    let dial = e.Dialled 2 to (whys.Plain 1) in
+    let told = met.held.told before (dial ∷ []) refl in
+    let none = none_applied before (met.applied before) (λ d control. false≢true control) told in
+    no_plain g (met.applied before) before 1 none (met.tried before 2 to (whys.Plain 1) [] refl)
 
 pub keeps_unadmitted : KeepsUnadmitted
 keeps_unadmitted to came g met =

@@ -1,8 +1,10 @@
 -- No byte goes unless what is held then admits the peer: said of a trace.
-use Rattle.std.specs.Prelude.{◌≡◌, ◌≢◌, ℕ, ◌==◌, if◌then◌else◌, List, fold, true, None}
+use Rattle.std.specs.Prelude.{⊤, ◌≡◌, ◌≢◌, ℕ, ◌==◌, if◌then◌else◌, List, fold, true, None}
 use Rattle.std.specs.List.{AllByRecursion}
 use Rattle.hb_base.specs.declared.door.Door.{Door}
 use Rattle.hb_base.specs.declared.door.Door.TheVariants as door
+use Rattle.hb_base.specs.declared.door.Why.{Why}
+use Rattle.hb_base.specs.declared.door.Why.TheVariants as whys
 use Rattle.hb_base.specs.declared.peer.Peer.{Peer}
 use Rattle.hb_base.specs.declared.target.Target.{Target}
 use Rattle.hb_frames.specs.RawFrame.{RawFrame}
@@ -31,6 +33,12 @@ pub record Admits (held : Resources) (trace : List Entry) (l s u : ℕ) : Type 0
   pub dialled : IsDialled trace l s u to
   pub admitted : judged held (peer_in seen) to ≡ Admitted
 
+-- and so they do at this target
+pub record AdmitsTo (held : Resources) (trace : List Entry) (l : ℕ) (to : Target) : Type 0 where
+  pub seen : Seen
+  pub fronted : IsFronted trace l seen
+  pub admitted : judged held (peer_in seen) to ≡ Admitted
+
 -- each DATA frame with payload among these is of a stream whose upstream they admit the peer at
 abbrev pub AreAdmitted : Resources → List Entry → ℕ → List RawFrame → Type 0
 AreAdmitted held trace l frames =
@@ -51,6 +59,12 @@ pub record AdmitsPlain (held : Resources) (trace : List Entry) (l : ℕ) : Type 
   pub seen : Seen
   pub fronted : IsFronted trace l seen
   pub admitted : judged held (record { ip = seen.source.ip; identity = None }) seen.destination ≡ Admitted
+
+-- TRIED: a link is dialled behind this trace. For a tunnel the peer is admitted at the target, and so is that of a link of the plain door
+abbrev pub TriesAdmitted : Resources → List Entry → Target → Why → Type 0
+TriesAdmitted held before to (whys.Upstream l s) = AdmitsTo held before l to
+TriesAdmitted held before to (whys.Plain l) = AdmitsPlain held before l
+TriesAdmitted held before to why = ⊤
 
 -- ADMITTED: bytes go on the link u behind this trace, where these frames begin on each inbound link
 pub record GoesAdmitted (held : Resources) (frames : ℕ → List RawFrame) (before : List Entry) (u : ℕ) (bytes : List ℕ) : Type 0 where

@@ -1,7 +1,9 @@
 pub mod Access
+pub mod Buffers
 pub mod Dials
 pub mod Good
 pub mod Headline
 pub mod Held
 pub mod Refused
 pub mod Relay
+pub mod Windows

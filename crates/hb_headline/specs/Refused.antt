@@ -1,27 +1,35 @@
 -- Small traces that don't meet the headline. Link 1 is accepted in them, and link 2 is its upstream, but where the control plane is
 -- dialled first.
-use Rattle.std.specs.Prelude.{◌≡◌, ◌≢◌, ℕ, ◌<◌, List, [], ◌∷◌, ◌++◌, length, map, Ok}
+use Rattle.std.specs.Prelude.{◌≡◌, ◌≢◌, ℕ, ◌<◌, List, [], ◌∷◌, ◌++◌, length, map, None, Ok}
 use Rattle.hb_base.specs.declared.door.Door.TheVariants as door
 use Rattle.hb_base.specs.declared.door.Why.TheVariants as whys
 use Rattle.hb_base.specs.declared.peer.Peer.{Peer}
 use Rattle.hb_base.specs.declared.target.Target.{Target}
 use Rattle.hb_disco.specs.Response.{response_of}
 use Rattle.hb_disco.specs.declared.response.Response.{Response}
-use Rattle.hb_frames.specs.RawFrame.{spelling}
+use Rattle.hb_conn.specs.Preface.{octets}
+use Rattle.hb_frames.specs.RawFrame.{RawFrame, spelling}
+use Rattle.hb_front.specs.Written.{front_text}
 use Rattle.hb_grpc.specs.Framed.{framed_of}
 use Rattle.hb_held.specs.Held.{Resources}
 use Rattle.hb_held.specs.Outcome.{after_response}
+use Rattle.hb_laws.specs.Good.{source, destination}
+use Rattle.hb_laws.specs.RefusedTunnels.{data_frame}
+use Rattle.hb_laws.specs.RefusedWindows.{three, none_granted, ack}
 use Rattle.hb_model.specs.Discovery.{longest_message}
 use Rattle.hb_model.specs.declared.config.NodeConfig.{NodeConfig}
+use Rattle.hb_outgoing.specs.Waiting.{spelled}
 use Rattle.hb_proxy.specs.Held.{at_start}
 use Rattle.hb_table.specs.Judgement.{judged}
 use Rattle.hb_table.specs.declared.judgement.Judged.TheVariants.{Admitted}
 use Rattle.hb_world.specs.declared.entry.Entry.{Entry}
 use Rattle.hb_world.specs.declared.entry.Entry.TheVariants as e
 use Rattle.hb_headline.specs.Access.{Admits}
+use Rattle.hb_headline.specs.Buffers.{Buffers}
 use Rattle.hb_headline.specs.Good.{data_of}
 use Rattle.hb_headline.specs.Headline.{Headline}
 use Rattle.hb_headline.specs.Relay.{data_with}
+use Rattle.hb_headline.specs.Windows.{Windows}
 
 abbrev pub NotMet : List Entry → Type 0
 NotMet trace = (g : NodeConfig) → Headline g trace → ⊥
@@ -89,6 +97,16 @@ unanswered at to came =
 abbrev pub AdmitsForged : Type 0
 AdmitsForged = (at to : Target) (came bytes : List ℕ) → NotMet (unanswered at to came ++ e.Went 3 bytes ∷ [])
 
+-- TRIED: a link is dialled for a stream where nothing was told
+abbrev pub DialsUntold : Type 0
+DialsUntold = (to : Target) (came : List ℕ)
+    → NotMet (e.Accepted 1 door.Inbound ∷ e.Came 1 came ∷ e.Dialled 2 to (whys.Upstream 1 1) ∷ [])
+
+-- and so it is on the plain door
+abbrev pub DialsPlainUntold : Type 0
+DialsPlainUntold = (to : Target) (came : List ℕ)
+    → NotMet (e.Accepted 1 door.Plain ∷ e.Came 1 came ∷ e.Dialled 2 to (whys.Plain 1) ∷ [])
+
 -- ADMITTED: bytes go on a link that was never born
 abbrev pub SendsUnborn : Type 0
 SendsUnborn = (bytes : List ℕ) → NotMet (e.Went 1 bytes ∷ [])
@@ -125,3 +143,42 @@ KeepsRevoked = (at to : Target) (first came later : List ℕ) (a b : Response) (
     → length later < 16777216 → map response_of (framed_of longest_message (first ++ later)).messages ≡ Ok a ∷ Ok b ∷ []
     → ((peer : Peer) → judged (after_response (after_response (at_start g) a) b) peer to ≢ Admitted)
     → Headline g (revoked_so at to first came later ++ e.Tick ∷ []) → ⊥
+
+-- WINDOWS: frames with which DATA begins beyond what the peer granted
+abbrev pub NotWithin : List Entry → Type 0
+NotWithin trace = (frames : ℕ → List RawFrame) → Windows trace frames → ⊥
+
+abbrev pub sends : List RawFrame → List Entry
+sends frames = e.Accepted 1 door.Inbound ∷ e.Went 1 (spelled frames) ∷ []
+
+-- a frame has an octet more than 16,384; and a fourth one of 16,384, each on a stream of its own, passes the connection's window by one
+abbrev pub BeginsLarge : Type 0
+BeginsLarge = (payload : List ℕ) → length payload ≡ 16385 → NotWithin (sends (data_frame 0 1 payload ∷ []))
+
+abbrev pub BeginsBeyond : Type 0
+BeginsBeyond = (payload : List ℕ) → length payload ≡ 16384 → NotWithin (sends (three payload ++ data_frame 0 7 payload ∷ []))
+
+-- the control plane sets a window of 0 for streams, which is acknowledged, and an octet is sent on the stream
+abbrev pub ungranted : Target → ℕ → List Entry
+ungranted at byte =
+    e.Dialled 1 at whys.Discovery ∷ e.Opened 1 ∷ e.Came 1 (spelling none_granted)
+    ∷ e.Went 1 (octets ++ spelled (ack ∷ data_with byte ∷ [])) ∷ []
+
+abbrev pub BeginsUngranted : Type 0
+BeginsUngranted = (at : Target) (byte : ℕ) → NotWithin (ungranted at byte)
+
+-- BUFFERS: more waits than a ring has room for
+abbrev pub Overruns : List Entry → Type 0
+Overruns trace = (frames : ℕ → List RawFrame) → Buffers trace frames → ⊥
+
+-- 65,536 octets that came behind the header of a link of the plain door wait to go to its upstream, or 16,385 that came from that
+abbrev pub KeepsMoreUp : Type 0
+KeepsMoreUp = (to : Target) (octets : List ℕ) → length octets ≡ 65536
+    → Overruns (plain_untold to (front_text source destination None ++ octets) ++ e.Tick ∷ [])
+
+abbrev pub KeepsMoreDown : Type 0
+KeepsMoreDown = (to : Target) (octets : List ℕ) → length octets ≡ 16385 → Overruns (plain_untold to [] ++ e.Came 2 octets ∷ e.Tick ∷ [])
+
+-- and 32,769 that come from the upstream of a tunnel, of which none went in DATA
+abbrev pub TunnelKeepsMore : Type 0
+TunnelKeepsMore = (to : Target) (octets : List ℕ) → length octets ≡ 32769 → Overruns (untold to [] ++ e.Came 2 octets ∷ [])

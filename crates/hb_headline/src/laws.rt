@@ -4,7 +4,9 @@ ghost use Rattle.hb_headline.specs.Good.{LifeMeetsTheHeadline};
 ghost use Rattle.hb_headline.specs.Headline.{LawfulKeepsTheHeadline};
 ghost use Rattle.hb_headline.specs.Refused.{SendsUnfronted, TunnelsUnfronted, InventsBack, SendsEarly, InventsData};
 ghost use Rattle.hb_headline.specs.Refused.{SendsUnasked, DialsTwice, DialsElsewhere, AdmitsElsewhere, AdmitsUntold, AdmitsForged};
+ghost use Rattle.hb_headline.specs.Refused.{DialsUntold, DialsPlainUntold};
 ghost use Rattle.hb_headline.specs.Refused.{SendsUnborn, CutsUnadmitted, KeepsUnadmitted, RelaysUntold, KeepsPlain, KeepsRevoked};
+ghost use Rattle.hb_headline.specs.Refused.{BeginsLarge, BeginsBeyond, BeginsUngranted, KeepsMoreUp, KeepsMoreDown, TunnelKeepsMore};
 ghost use Rattle.hb_headline.specs.Relay.{BeganIsNotOne};
 
 /// Each lawful trace meets the headline.
@@ -14,7 +16,7 @@ pub fn headline_holds()
 
 /// Small traces don't meet it: bytes that go to a workload without a header, or that it didn't send, or of a stream without one; a second
 /// upstream of a stream; peers who aren't admitted where they go, by nothing that came, in frames that are cut, or no
-/// longer.
+/// longer; DATA beyond what the peer granted; octets that wait beyond a ring.
 pub fn small_traces_are_refused()
     ensures unfronted { SendsUnfronted }
     ensures tunnel { TunnelsUnfronted }
@@ -26,6 +28,8 @@ pub fn small_traces_are_refused()
     ensures again { DialsElsewhere }
     ensures elsewhere { AdmitsElsewhere }
     ensures untold { AdmitsUntold }
+    ensures tried { DialsUntold }
+    ensures tried_plain { DialsPlainUntold }
     ensures forged { AdmitsForged }
     ensures unborn { SendsUnborn }
     ensures cut { CutsUnadmitted }
@@ -33,6 +37,12 @@ pub fn small_traces_are_refused()
     ensures relayed { RelaysUntold }
     ensures plain { KeepsPlain }
     ensures revoked { KeepsRevoked }
+    ensures large { BeginsLarge }
+    ensures beyond { BeginsBeyond }
+    ensures ungranted { BeginsUngranted }
+    ensures waiting_up { KeepsMoreUp }
+    ensures waiting_down { KeepsMoreDown }
+    ensures waiting_tunnel { TunnelKeepsMore }
 {}
 
 /// A life of a tunnel with a response that admits its peer meets it.

@@ -20,6 +20,7 @@ use Rattle.hb_inbound.proofs.AdmittedRun.{all_admit}
 use Rattle.hb_inbound.proofs.EndsRun.{all_say, new_streams}
 use Rattle.hb_inbound.proofs.LifeRun.{LateBy}
 use Rattle.hb_inbound.proofs.Runs.{all_keep}
+use Rattle.hb_inbound.proofs.Sending.{Sends}
 use Rattle.hb_inbound.proofs.SendsRun.{GoesBy, all_send}
 use Rattle.hb_inbound.proofs.Waiting.{Serves, WaitsIn, speaks}
 use Rattle.hb_inbound.proofs.WaitingRun.{all_wait}
@@ -100,8 +101,7 @@ serves_live (closing why) x parts s is knows late = absurd (false≢true (sym (l
 serves_live closed x parts s is knows late = absurd (false≢true (sym (late s) ∙ ap takes_place is))
 
 module _ (l : ℕ) (start : Resources) (a : Local) (parts : List Part) (run : StandsFor l start a parts) (s : ℕ) (bytes : List ℕ)
-    (is_live : (a.link.tunnels s).stage ≡ live) (some : 0 < length bytes) (most : length bytes ≤ up_wants (a.link.tunnels s))
-    (frames : List RawFrame) (went : link_went parts ≡ spelled frames) where
+    (is_live : (a.link.tunnels s).stage ≡ live) (some : 0 < length bytes) (most : length bytes ≤ up_wants (a.link.tunnels s)) where
   abbrev x : Inbound
   x = a.link
 
@@ -140,8 +140,10 @@ module _ (l : ℕ) (start : Resources) (a : Local) (parts : List Part) (run : St
       let done = and_parts t.ways.down.has_ended (length t.ways.down.held == 0) ((waits.each s).spent is) in
       absurd (false≢true (sym goes_on ∙ done.0))
 
-  pub down_fits : length (up_came s parts) + length bytes ≤ length (payloads s frames) + 16384 + 16384
-  down_fits =
+  -- what came goes in frames that have begun, but for the frame that waits and the ring
+  pub down_within : (begun : List RawFrame) → Sends parts begun c s (x.tunnels s)
+      → length (up_came s parts) + length bytes ≤ length (payloads s begun) + 16384 + 16384
+  down_within begun sends =
       let t = x.tunnels s in
       let queue = (outgoing c).queue in
       let all = all_send l start a parts run in
@@ -149,10 +151,8 @@ module _ (l : ℕ) (start : Resources) (a : Local) (parts : List Part) (run : St
       let own = (waits.each s).own (ap speaks is_live) (open_yet t.end_put refl) in
       let active = active_some (streams c) s (ap (λ b. b || (sides c s).peer) own) in
       let over = subst (λ (ph : Phase). GoesBy ph c) serves all.goes in
-      let follows = (all.sends s).follows in
+      let follows = sends.follows in
       let rest : follows.rest ≡ t.ways.down.held = follows.goes (over, active) in
-      let began = have_begun (link_went parts) (outgoing c).rest all.begun (outgoing c).begun all.shows all.ends in
-      let begun : all.begun ≡ frames = begun_read (link_went parts) frames all.begun began went in
       let room : up_wants t ≡ 16384 - length t.ways.down.held =
       ap (λ (b : Bool). cond b 0 (16384 - length t.ways.down.held)) goes_on in
       omega (
@@ -163,9 +163,17 @@ module _ (l : ℕ) (start : Resources) (a : Local) (parts : List Part) (run : St
         one_waits s (outgoing c).rest queue
             (data_stands_first Server (moves parts) (tellings parts) (conn_came parts) (link_went parts) c stands) size,
         ap (λ (xs : List ℕ). length xs) follows.front,
-        length-append (payloads s (all.begun ++ queue)) follows.rest,
+        length-append (payloads s (begun ++ queue)) follows.rest,
         ap (λ (xs : List ℕ). length xs) rest,
-        ap (λ (xs : List ℕ). length xs) (flat_map-append (payload_on s) all.begun queue),
-        length-append (payloads s all.begun) (payloads s queue),
-        ap (λ (fs : List RawFrame). length (payloads s fs)) begun,
+        ap (λ (xs : List ℕ). length xs) (flat_map-append (payload_on s) begun queue),
+        length-append (payloads s begun) (payloads s queue),
       )
+
+  -- so it is where these whole frames went
+  pub down_fits : (frames : List RawFrame) → link_went parts ≡ spelled frames
+      → length (up_came s parts) + length bytes ≤ length (payloads s frames) + 16384 + 16384
+  down_fits frames went =
+      let all = all_send l start a parts run in
+      let began = have_begun (link_went parts) (outgoing c).rest all.begun (outgoing c).begun all.shows all.ends in
+      subst (λ (fs : List RawFrame). length (up_came s parts) + length bytes ≤ length (payloads s fs) + 16384 + 16384)
+      (begun_read (link_went parts) frames all.begun began went) (down_within all.begun (all.sends s))

@@ -49,7 +49,7 @@ use Rattle.hb_laws.proofs.Spelled.{frames_read}
 -- WHERE A FRAME BEGINS
 
 -- of two ways to part a list one is the longer
-joined : (xs ys zs ws : List RawFrame) → xs ++ ys ≡ zs ++ ws
+pub joined : (xs ys zs ws : List RawFrame) → xs ++ ys ≡ zs ++ ws
     → ((mid : List RawFrame) × (zs ≡ xs ++ mid) × (ys ≡ mid ++ ws)) ⊎ ((f : RawFrame) × (more : List RawFrame) × (xs ≡ zs ++ f ∷ more))
 joined [] ys zs ws is = inl (zs, refl, is)
 joined (x ∷ xs) ys [] ws is = inr (x, xs, refl)
@@ -59,7 +59,7 @@ joined (x ∷ xs) ys (z ∷ zs) ws is =
     ⊎_elim (λ h. inl (h.0, ap (λ (f : RawFrame). f ∷ zs) (sym head) ∙ ap (λ (fs : List RawFrame). x ∷ fs) h.1, h.2))
     (λ h. inr (h.0, h.1, ap (λ (f : RawFrame). f ∷ xs) head ∙ ap (λ (fs : List RawFrame). z ∷ fs) h.2)) (joined xs ys zs ws tail)
 
-spelled_with : (front more : List RawFrame) (f : RawFrame)
+pub spelled_with : (front more : List RawFrame) (f : RawFrame)
     → length (spelled (front ++ f ∷ more)) ≡ length (spelled front) + (length (spelling f) + length (spelled more))
 spelled_with front more f =
     omega (
@@ -87,7 +87,7 @@ front_within (x ∷ front) (y ∷ before) more f last is =
     )
 
 -- a frame of which no octet went hasn't begun
-not_begun : (w : Waiting) (begun front more : List RawFrame) (f : RawFrame) (opens went : List ℕ) → Left begun w
+pub not_begun : (w : Waiting) (begun front more : List RawFrame) (f : RawFrame) (opens went : List ℕ) → Left begun w
     → length went + length w.rest ≡ length opens + length (spelled begun) → length went ≤ length (opens ++ spelled front)
     → begun ≡ front ++ f ∷ more → ⊥
 not_begun w begun front more f opens went (inl none) shows unbegun is =
@@ -118,7 +118,7 @@ not_begun w begun front more f opens went (inr (inr last)) shows unbegun is =
     ))
 
 -- of frames that fit each does
-fits_in : (front got mid more : List RawFrame) (f : RawFrame) → AllFit front got (mid ++ f ∷ more) → has_data f ≡ true
+pub fits_in : (front got mid more : List RawFrame) (f : RawFrame) → AllFit front got (mid ++ f ∷ more) → has_data f ≡ true
     → FitsWindows f (front ++ mid) got
 fits_in front got [] more f fit payload =
     subst (λ (fs : List RawFrame). FitsWindows f fs got) (sym (append-nil front)) (fit.0 payload)

@@ -1,4 +1,6 @@
-use Rattle.hb_headline.proofs.Refused.{sends_unfronted, tunnels_unfronted, invents_back, sends_early, invents_data, sends_unasked, dials_twice, dials_elsewhere, admits_elsewhere, admits_untold, admits_forged, sends_unborn, cuts_unadmitted, keeps_unadmitted, relays_untold, keeps_plain}
+use Rattle.hb_headline.proofs.Beyond.{begins_large, begins_beyond, begins_ungranted}
+use Rattle.hb_headline.proofs.Overrun.{keeps_more_up, keeps_more_down, tunnel_keeps_more}
+use Rattle.hb_headline.proofs.Refused.{sends_unfronted, tunnels_unfronted, invents_back, sends_early, invents_data, sends_unasked, dials_twice, dials_elsewhere, admits_elsewhere, admits_untold, dials_untold, dials_plain_untold, admits_forged, sends_unborn, cuts_unadmitted, keeps_unadmitted, relays_untold, keeps_plain}
 use Rattle.hb_headline.proofs.Revoking.{keeps_revoked}
 use Rattle.hb_headline.proofs.laws.small_traces_are_refused.Goals as goal
 
@@ -14,6 +16,8 @@ returns c = record {
   again = dials_elsewhere;
   elsewhere = admits_elsewhere;
   untold = admits_untold;
+  tried = dials_untold;
+  tried_plain = dials_plain_untold;
   forged = admits_forged;
   unborn = sends_unborn;
   cut = cuts_unadmitted;
@@ -21,4 +25,10 @@ returns c = record {
   relayed = relays_untold;
   plain = keeps_plain;
   revoked = keeps_revoked;
+  large = begins_large;
+  beyond = begins_beyond;
+  ungranted = begins_ungranted;
+  waiting_up = keeps_more_up;
+  waiting_down = keeps_more_down;
+  waiting_tunnel = tunnel_keeps_more;
 }
