@@ -1,7 +1,7 @@
 -- Frames that are looked at one after another.
 use Rattle.std.proofs.Common.{◌≡◌, true, false, [], ◌∷◌, refl, subst, Some, None}
 use Rattle.hb_conn.specs.Outcome.{is_silent}
-use Rattle.hb_conn.specs.Receiving.{Steps, StepsOn, Ends, waits, lacks, tells, Receives, pauses}
+use Rattle.hb_conn.specs.Receiving.{Steps, StepsOn, Ends, waits, lacks, tells, Receives, LacksBlock, pauses}
 use Rattle.hb_conn.specs.declared.receiver.Receiver.{Receiver}
 use Rattle.hb_conn.specs.declared.found.Found.{Found}
 use Rattle.hb_conn.specs.declared.found.Found.TheVariants.{Silent}
@@ -28,4 +28,15 @@ receives_on old mid new silent found steps test later = record {
   last = later.last;
   passes = (subst (λ (f : Found). Steps old mid f) (silent_is silent test) steps.0, later.passes);
   ends = later.ends;
+}
+
+-- behind it memory is wanting
+pub lacks_on : (old mid : Receiver) (silent : Found) → StepsOn old mid (Some silent) → is_silent silent ≡ true → LacksBlock mid
+    → LacksBlock old
+lacks_on old mid silent steps test later = record {
+  through = mid ∷ later.through;
+  last = later.last;
+  passes = (subst (λ (f : Found). Steps old mid f) (silent_is silent test) steps.0, later.passes);
+  goes = later.goes;
+  block = later.block;
 }

@@ -39,6 +39,12 @@ glance_by r (Err refusal) = Refused refusal.code refusal.row (slice_index r.held
 abbrev pub glance_of : Reading → Glance
 glance_of r = glance_by r (first_of r.max r.held)
 
+-- a frame of a header block (RFC 9113 section 4.3)
+abbrev pub IsOfBlock : Glance → Type 0
+IsOfBlock (Headers stream end whole) = ⊤
+IsOfBlock (Continuation stream whole) = ⊤
+IsOfBlock _ = ⊥
+
 -- the number of a stream has 31 bits
 abbrev pub IsInRange : Glance → Type 0
 IsInRange (Data stream counted end) = stream ≤ largest

@@ -29,6 +29,7 @@ use Rattle.hb_conn.specs.Laws.{IsCaughtUp}
 use Rattle.hb_conn.specs.Opening as opening
 use Rattle.hb_conn.specs.Owing as owing
 use Rattle.hb_conn.specs.Payload as payload
+use Rattle.hb_conn.specs.Receiving as receiving
 use Rattle.hb_conn.specs.Receiving.{pauses}
 use Rattle.hb_conn.specs.declared.found.Found.{Found}
 use Rattle.hb_conn.specs.declared.found.Found.TheVariants as found
@@ -77,6 +78,10 @@ NoneIsWhole c = glance_of c.receiver.reader ≡ Nothing
 -- nothing more is to be told of what came: of no end, and of no whole frame
 abbrev pub IsLookedAt : Connection → Type 0
 IsLookedAt c = (c.ended ≡ None) × NoneIsWhole c
+
+-- memory was wanting for a header block: behind frames of which nothing is told a frame of one stands next
+abbrev pub LacksBlock : Connection → Type 0
+LacksBlock c = receiving.LacksBlock c.receiver
 
 -- the octets of DATA that were told last, and those that are handed out with what is told
 abbrev pub data_told : Connection → List ℕ

@@ -2,7 +2,7 @@
 use Rattle.std.specs.Prelude.{◌≡◌, ◌≢◌, ◌⊎◌, ℕ, ◌+◌, ◌||◌, nat_lt, Bool, true, false, List, [], ◌∷◌, length, ◌≤◌, Option, Some, None}
 use Rattle.hb_frames.specs.Reading.{asked}
 use Rattle.hb_outgoing.specs.Waiting.{room_of}
-use Rattle.hb_conn.specs.Glance.{glance_of}
+use Rattle.hb_conn.specs.Glance.{glance_of, IsOfBlock}
 use Rattle.hb_conn.specs.Outcome.{is_silent}
 use Rattle.hb_conn.specs.Handling.{Handles}
 use Rattle.hb_conn.specs.declared.machine.Core.{Core}
@@ -51,6 +51,14 @@ pub record Receives (old new : Receiver) (found : Found) : Type 0 where
   pub last : Receiver
   pub passes : Passes through old last
   pub ends : Ends last new found
+
+-- where memory was wanting: behind frames of which nothing is told the next one is of a header block
+pub record LacksBlock (old : Receiver) : Type 0 where
+  pub through : List Receiver
+  pub last : Receiver
+  pub passes : Passes through old last
+  pub goes : pauses last.core ≡ false
+  pub block : IsOfBlock (glance_of last.reader)
 
 -- whatever is told, a frame less is held than before, or it is a connection error
 abbrev pub LeavesLess : Receiver → Receiver → Found → Type 0

@@ -1,12 +1,12 @@
 //! One connection.
 
-ghost use Rattle.std.specs.Prelude.{◌≡◌, ◌≤◌, ◌<◌, ◌+◌, min, length, IfOk, IsTrue};
+ghost use Rattle.std.specs.Prelude.{◌≡◌, ◌≤◌, ◌<◌, ◌+◌, min, length, IfOk, OnErr, IsTrue};
 ghost use Rattle.std.specs.Borrow.{sem};
 ghost use Rattle.hb_hpack.specs.Table.{total};
 ghost use Rattle.hb_streams.specs.declared.role.Role.TheVariants.{Client};
 ghost use Rattle.hb_conn.specs.Connection.{fresh_core, fresh_server, fresh_client, space_of, count_of, taken, Finds, LeavesLess};
 ghost use Rattle.hb_conn.specs.Loan.{EndsTold};
-ghost use Rattle.hb_conn.specs.Observed.{output, room, role, sides, own_side_open, IsActiveOn, streams_open, creditable, count_put, data_unbegun, data_begun, end_waits, next_stream};
+ghost use Rattle.hb_conn.specs.Observed.{output, room, role, sides, own_side_open, IsActiveOn, streams_open, creditable, count_put, data_unbegun, data_begun, end_waits, next_stream, LacksBlock};
 ghost use Rattle.hb_conn.specs.Observed.{KeepsWhatCame, wrote, Opens, data_put, credited, status_put, end_put, aborted};
 
 use crate::found::Found;
@@ -140,6 +140,7 @@ impl Conn {
     fn next_found(&mut self) -> Result<Found, NoMemory>
         ensures all { IfOk result (Finds self.old self.new) }
         ensures falls { IfOk result (LeavesLess self.old self.new) }
+        ensures lacks { OnErr result (LacksBlock self.old) }
     {
         if self.receiver.core.pauses() {
             return Ok(Found::Silent);
@@ -161,9 +162,10 @@ impl Conn {
     /// What happened next. `None` where nothing more did: no whole frame is left that makes a happening, `room` is
     /// below 256, or a connection error was told.
     ///
-    /// Errors: `NoMemory`, after which the connection isn't used again.
+    /// Errors: `NoMemory`, where a header block wants memory; the connection isn't used again then.
     pub fn next_happening(&mut self) -> Result<Option<Happening<'_>>, NoMemory>
         ensures* after { sem 𝓛 (EndsTold self.entry result) }
+        ensures lacks { OnErr result (LacksBlock self.old) }
     {
         let found = self.next_found()?;
         Ok(match found {

@@ -1,15 +1,14 @@
 //! DATA (RFC 9113 sections 5.2, 6.1 and 6.9).
 
-ghost use Rattle.std.specs.Prelude.{◌≡◌, ◌+◌, ◌-◌, ◌≤◌, length, OnOk};
+ghost use Rattle.std.specs.Prelude.{◌≡◌, ◌+◌, ◌-◌, ◌≤◌, length};
 ghost use Rattle.std.specs.FinMap.{get};
 ghost use Rattle.hb_outgoing.specs.Waiting.{octets_of, size};
 ghost use Rattle.hb_flow.specs.Flows.{took};
 ghost use Rattle.hb_conn.specs.Data.{credited, credited_on, used, continued, data_goes, is_of_idle, data_answered, on_data};
-ghost use Rattle.hb_conn.specs.Outcome.{Does};
+ghost use Rattle.hb_conn.specs.Outcome.{Gives};
 
 use crate::found::Found;
 use crate::machine::Core;
-use hb_base::{NoMemory, Or};
 use hb_frames::numbers::{DATA, FLOW_CONTROL_ERROR, PROTOCOL_ERROR};
 use hb_streams::{Step, StreamFault};
 
@@ -47,36 +46,28 @@ impl Core {
     }
 
     /// The peer's side of the stream goes on, or ends.
-    fn go_on(&mut self, stream: u32, end: bool) -> Result<(), NoMemory>
-        ensures { OnOk result (self.new ≡ continued self.old stream end) }
+    fn go_on(&mut self, stream: u32, end: bool)
+        ensures { self.new ≡ continued self.old stream end }
     {
         if !end {
             self.credit_stream(stream);
-            return Ok(());
+            return;
         }
-        if let Err(Or::NoMemory) = self.streams.on_frame(DATA, stream, true) {
-            return Err(NoMemory);
-        }
+        // Only a stream that begins wants memory.
+        let _ = self.streams.on_frame(DATA, stream, true);
         self.release(stream);
-        Ok(())
     }
 
     /// DATA that the state of its stream lets go.
-    fn data_goes(
-        &mut self,
-        stream: u32,
-        counted: u32,
-        unpadded: usize,
-        end: bool,
-    ) -> Result<Found, NoMemory>
-        ensures { Does (data_goes self.old stream counted unpadded end (get self.old.flow.streams stream)) self.new result }
+    fn data_goes(&mut self, stream: u32, counted: u32, unpadded: usize, end: bool) -> Found
+        ensures { Gives (data_goes self.old stream counted unpadded end (get self.old.flow.streams stream)) self.new result }
     {
         match self.flow.take_stream(stream, counted) {
-            Err(_) => Ok(self.break_stream(stream, FLOW_CONTROL_ERROR)),
+            Err(_) => self.break_stream(stream, FLOW_CONTROL_ERROR),
             Ok(()) => {
                 self.flow.owe_stream(stream, padding_of(counted, unpadded));
-                self.go_on(stream, end)?;
-                Ok(Found::Chunk { stream, end })
+                self.go_on(stream, end);
+                Found::Chunk { stream, end }
             }
         }
     }
@@ -89,33 +80,27 @@ impl Core {
         unpadded: usize,
         end: bool,
         answer: Result<Step, StreamFault>,
-    ) -> Result<Found, NoMemory>
+    ) -> Found
         requires room { length (octets_of self.old.out) + 17 ≤ size }
-        ensures { Does (data_answered self.old stream counted unpadded end answer) self.new result }
+        ensures { Gives (data_answered self.old stream counted unpadded end answer) self.new result }
     {
         match answer {
             Ok(Step::Goes) => self.data_goes(stream, counted, unpadded, end),
-            Ok(_) => Ok(Found::Silent),
-            Err(fault) => Ok(self.refuse(fault)),
+            Ok(_) => Found::Silent,
+            Err(fault) => self.refuse(fault),
         }
     }
 
-    pub(crate) fn on_data(
-        &mut self,
-        stream: u32,
-        counted: u32,
-        unpadded: usize,
-        end: bool,
-    ) -> Result<Found, NoMemory>
+    pub(crate) fn on_data(&mut self, stream: u32, counted: u32, unpadded: usize, end: bool) -> Found
         requires room { length (octets_of self.old.out) + 30 ≤ size }
-        ensures { Does (on_data self.old stream counted unpadded end) self.new result }
+        ensures { Gives (on_data self.old stream counted unpadded end) self.new result }
     {
         let answer = self.streams.answer(DATA, stream);
         if is_of_idle(answer) {
-            return Ok(self.fail(PROTOCOL_ERROR));
+            return self.fail(PROTOCOL_ERROR);
         }
         if self.flow.take(counted).is_err() {
-            return Ok(self.fail(FLOW_CONTROL_ERROR));
+            return self.fail(FLOW_CONTROL_ERROR);
         }
         self.flow.owe(counted);
         self.credit_connection();

@@ -1,8 +1,8 @@
 //! What each frame makes of a connection.
 
-ghost use Rattle.std.specs.Prelude.{◌≡◌, ◌+◌, ◌≤◌, length, false, IfOk};
+ghost use Rattle.std.specs.Prelude.{◌≡◌, ◌+◌, ◌≤◌, length, false, IfOk, OnErr};
 ghost use Rattle.hb_outgoing.specs.Waiting.{octets_of, size};
-ghost use Rattle.hb_conn.specs.Glance.{IsInRange};
+ghost use Rattle.hb_conn.specs.Glance.{IsInRange, IsOfBlock};
 ghost use Rattle.hb_conn.specs.Places.{is_too_long, is_settings, goes_on, is_misplaced};
 ghost use Rattle.hb_conn.specs.Handling.{Handles, Answers};
 
@@ -54,22 +54,25 @@ impl Core {
     }
 
     /// A frame in its place, with its content.
+    ///
+    /// Errors: `NoMemory` of a header block alone.
     fn answer(&mut self, glance: Glance, bytes: &[u8]) -> Result<Found, NoMemory>
         requires room { length (octets_of self.old.out) + 30 ≤ size }
         requires in_range { IsInRange glance }
         requires placed { is_misplaced self.old glance ≡ false }
-        ensures { IfOk result (Answers self.old glance bytes.now self.new) }
+        ensures answers { IfOk result (Answers self.old glance bytes.now self.new) }
+        ensures lacks { OnErr result (IsOfBlock glance) }
     {
         match glance {
             Glance::Data {
                 stream,
                 counted,
                 end,
-            } => self.on_data(stream, counted, bytes.len(), end),
+            } => Ok(self.on_data(stream, counted, bytes.len(), end)),
             Glance::Headers { stream, end, whole } => self.on_headers(stream, end, bytes, whole),
             Glance::Continuation { stream, whole } => self.on_continuation(stream, bytes, whole),
             Glance::Settings { ack } => Ok(self.on_settings(ack, bytes)),
-            Glance::Reset { stream, code } => self.on_reset(stream, code),
+            Glance::Reset { stream, code } => Ok(self.on_reset(stream, code)),
             Glance::Window { stream, increment } => Ok(self.on_window(stream, increment)),
             Glance::Ping { ack, value } => Ok(self.on_ping(ack, value)),
             Glance::GoAway { last } => Ok(Found::GoneAway { last }),
@@ -81,7 +84,8 @@ impl Core {
     pub(crate) fn handle(&mut self, glance: Glance, bytes: &[u8]) -> Result<Found, NoMemory>
         requires room { length (octets_of self.old.out) + 30 ≤ size }
         requires in_range { IsInRange glance }
-        ensures { IfOk result (Handles self.old glance bytes.now self.new) }
+        ensures handles { IfOk result (Handles self.old glance bytes.now self.new) }
+        ensures lacks { OnErr result (IsOfBlock glance) }
     {
         if self.is_misplaced(glance) {
             return Ok(self.fail(PROTOCOL_ERROR));

@@ -1,7 +1,7 @@
 //! Frames taken one after another until something is told.
 
-ghost use Rattle.std.specs.Prelude.{◌≡◌, false, IfOk};
-ghost use Rattle.hb_conn.specs.Receiving.{pauses, StepsOn, Receives, LeavesLess};
+ghost use Rattle.std.specs.Prelude.{◌≡◌, false, IfOk, OnErr};
+ghost use Rattle.hb_conn.specs.Receiving.{pauses, StepsOn, Receives, LeavesLess, LacksBlock};
 
 use crate::found::Found;
 use crate::glance::{Glance, next_glance};
@@ -31,7 +31,8 @@ impl Receiver {
     /// Looks at the frame in front.
     fn step(&mut self) -> Result<Option<Found>, NoMemory>
         requires { pauses self.old.core ≡ false }
-        ensures { IfOk result (StepsOn self.old self.new) }
+        ensures steps { IfOk result (StepsOn self.old self.new) }
+        ensures lacks { OnErr result (LacksBlock self.old) }
     {
         let glance = next_glance(&mut self.reader);
         if let Glance::Nothing = glance {
@@ -45,6 +46,7 @@ impl Receiver {
     pub(crate) fn receive(&mut self) -> Result<Found, NoMemory>
         ensures all { IfOk result (Receives self.old self.new) }
         ensures falls { IfOk result (LeavesLess self.old self.new) }
+        ensures lacks { OnErr result (LacksBlock self.old) }
     {
         while !self.core.pauses() {
             let Some(found) = self.step()? else {

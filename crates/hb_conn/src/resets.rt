@@ -3,29 +3,27 @@
 ghost use Rattle.std.specs.Prelude.{◌≡◌, ◌+◌, ◌≤◌, length};
 ghost use Rattle.hb_outgoing.specs.Waiting.{octets_of, size};
 ghost use Rattle.hb_conn.specs.Resets.{on_reset};
-ghost use Rattle.hb_conn.specs.Outcome.{Does};
+ghost use Rattle.hb_conn.specs.Outcome.{Gives};
 
 use crate::found::Found;
 use crate::machine::Core;
-use hb_base::{NoMemory, Or};
 use hb_frames::numbers::RST_STREAM;
 use hb_streams::Step;
 
 impl Core {
-    pub(crate) fn on_reset(&mut self, stream: u32, code: u32) -> Result<Found, NoMemory>
+    pub(crate) fn on_reset(&mut self, stream: u32, code: u32) -> Found
         requires room { length (octets_of self.old.out) + 17 ≤ size }
-        ensures { Does (on_reset self.old stream code) self.new result }
+        ensures { Gives (on_reset self.old stream code) self.new result }
     {
         match self.streams.answer(RST_STREAM, stream) {
-            Err(fault) => Ok(self.refuse(fault)),
+            Err(fault) => self.refuse(fault),
             Ok(Step::Goes) => {
-                if let Err(Or::NoMemory) = self.streams.on_frame(RST_STREAM, stream, false) {
-                    return Err(NoMemory);
-                }
+                // Only a stream that begins wants memory.
+                let _ = self.streams.on_frame(RST_STREAM, stream, false);
                 self.give_up(stream);
-                Ok(Found::Reset { stream, code })
+                Found::Reset { stream, code }
             }
-            Ok(_) => Ok(Found::Silent),
+            Ok(_) => Found::Silent,
         }
     }
 }

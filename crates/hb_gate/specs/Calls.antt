@@ -10,7 +10,7 @@ use Rattle.hb_gateway.specs.Calm.{AllReset, AllTold}
 use Rattle.hb_gateway.specs.Gateway as m
 use Rattle.hb_gateway.specs.Gateway.{Gateway, no_link, is_active, stage_of}
 use Rattle.hb_gateway.specs.Key.{Key}
-use Rattle.hb_gateway.specs.Part.{Part, entry, dialled, looked, asks, tells, put, finished, credited, reset, dropped, done}
+use Rattle.hb_gateway.specs.Part.{Part, entry, dialled, lacked, looked, asks, tells, put, finished, credited, reset, dropped, done}
 use Rattle.hb_gateway.specs.Response.{Heard, fails, is_living, carrying}
 use Rattle.hb_gateway.specs.Runs.{Steps, StandsFor}
 use Rattle.hb_history.specs.Points as history
@@ -146,6 +146,10 @@ abbrev pub LooksTold : (stream : ℕ) → Heard → (begun link : ℕ) → Gate 
 LooksTold s heard begun link old new =
     (new.number ≡ old.number)
     × OnEach old (λ x. MayLook x → (y : Gateway) × LooksInto old.number x y × TellsOf s heard begun link y new)
+
+-- memory lacks for a header block: the link is to be closed for that, and each tunnel ends
+abbrev pub LooksLacking : Gate → Gate → Type 0
+LooksLacking old new = (new.number ≡ old.number) × OnEach old (λ x. MayLook x → Goes lacked x new)
 
 -- the next tunnel that is to be told its end, or none is
 abbrev pub TellsEnd : (stream : ℕ) → Cause → (begun link : ℕ) → Gate → Gate → Type 0

@@ -1,8 +1,11 @@
 //! What came is looked at.
 
 ghost use Rattle.std.specs.Prelude.{◌≡◌, ◌<◌, true, IfOk, OnOk};
+ghost use Rattle.hb_base.specs.declared.cause.Cause.TheVariants as cause;
 ghost use Rattle.hb_gate.specs.Hearing.{told_of, bytes_told, look_of, Follows};
 ghost use Rattle.hb_gate.specs.Looking.{Looks, is_more, left_to_look};
+ghost use Rattle.hb_gate.specs.Streams.{EndsFrom};
+ghost use Rattle.hb_gate.specs.declared.phase.Phase.TheVariants.{Closing};
 
 use crate::ending::is_active;
 use crate::gate::Gate;
@@ -39,6 +42,8 @@ pub enum Look {
     Ends { stream: u32, link: u64 },
     /// It ends.
     Fails(Mail),
+    /// Memory lacks for a header block: the link is to be closed, and each tunnel to be told its end.
+    Lacked,
 }
 
 /// What is told of the connection, as its streams hear it.
@@ -131,15 +136,30 @@ impl Gate {
         }
     }
 
+    /// Memory lacks for a header block: the link is to be closed for that, and all tunnels end.
+    fn lack(&mut self)
+        ensures streams { EndsFrom 0 cause.NoMemory self.old.streams self.new.streams }
+        ensures rest { self.new ≡ record self.old { phase = Closing cause.NoMemory; streams = self.new.streams } }
+    {
+        self.phase = Phase::Closing(Cause::NoMemory);
+        self.end_all(Cause::NoMemory);
+    }
+
     /// Looks at what happens next; bytes that are brought stand in `bytes`. Each tunnel has to be told its end before, and each stream to
     /// be reset that is to be.
     ///
-    /// Errors: `NoMemory`, behind which the run ends.
+    /// Errors: `NoMemory`, where bytes that came have no room in `bytes`; the run ends behind it.
     pub fn look(&mut self, bytes: &mut Vec<u8>) -> Result<Look, NoMemory>
         ensures looks { IfOk result (λ look. Looks look bytes.new.items self.old self.new) }
         ensures falls { IfOk result (λ look. is_more look ≡ true → left_to_look self.new < left_to_look self.old) }
     {
-        let told = self.conn.next_happening()?;
+        let told = match self.conn.next_happening() {
+            Ok(told) => told,
+            Err(NoMemory) => {
+                self.lack();
+                return Ok(Look::Lacked);
+            }
+        };
         keep(told, bytes)?;
         let told = told_of(told);
         Ok(self.follow(told))

@@ -7,6 +7,7 @@ pub mod DialsRun
 pub mod EndsRun
 pub mod Grown
 pub mod Histories
+pub mod Lacking
 pub mod Left
 pub mod Life
 pub mod LifeRun

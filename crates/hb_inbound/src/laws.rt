@@ -3,6 +3,7 @@
 ghost use Rattle.hb_inbound.specs.Refused.{DialsUnasked, AcceptsUnopened, WritesUnopened, ShutsEarly, EndsEarly, WritesRevoked};
 ghost use Rattle.hb_inbound.specs.Laws.{RunsAdmit, RunsAnswer, RunsClose, RunsDial, RunsEnd, RunsFitRings, RunsNote};
 ghost use Rattle.hb_inbound.specs.Laws.{RunsObeyConnections, RunsObeyWindows, RunsRelayDown, RunsRelayUp};
+ghost use Rattle.hb_inbound.specs.Block.{LacksHeld, NoneIsRefused, DataIsRefused, HeadersMayLack};
 ghost use Rattle.hb_inbound.specs.Dials.{DialsElsewhere, LeavesOutDial, DialsTwice, DialsForAnother, DialMayGo};
 ghost use Rattle.hb_inbound.specs.ClosesRefused.{ClosesHealthy, ClosesForSecond, ClosesBroken, ReadsEnded, LooksStopped, WritesTwice};
 ghost use Rattle.hb_inbound.specs.ClosesRefused.{ClosesDone, ClosesTwice, TurnsAwayLate, ClosesMisfronted, WritesOnce};
@@ -160,6 +161,15 @@ pub fn wrong_verdicts_are_refused()
 /// of a place, the run's stop. Behind it nothing is read or looked at on the link, nothing is put, and it is closed once.
 pub fn links_close_once()
     ensures { RunsClose }
+{}
+
+/// Where memory is wanting while a connection looks at what came, a frame of a header block is among those that it holds (RFC 9113
+/// section 4.3): so the link may be closed for it. It isn't for DATA, nor where no frame is held; it may be for HEADERS.
+pub fn lacking_blocks_are_held()
+    ensures held { LacksHeld }
+    ensures none { NoneIsRefused }
+    ensures payload { DataIsRefused }
+    ensures headers { HeadersMayLack }
 {}
 
 /// Of each request there is one note at its answer, with its status, peer and target, and of each tunnel that lived one at its end, with

@@ -47,6 +47,7 @@ fn words_of_look(alloc: Global, look: Look) -> String {
             let mail = words_of_mail(alloc, Some(mail));
             write!(words, "fails {mail}")
         }
+        Look::Lacked => words.push_str("lacked"),
     };
     words
 }

@@ -3,6 +3,7 @@ use Rattle.std.proofs.Common.{◌≡◌, ◌≢◌, ◌⊎◌, inl, inr, ⊎_eli
 use Rattle.std.proofs.lemmas.Bool.{cases_eq, eq-eqb, false≢true, ne_eqb, true≢false}
 use Rattle.std.specs.List.{flat_map}
 use Rattle.std.specs.FinMap.{get, insert}
+use Rattle.hb_base.specs.declared.cause.Cause.TheVariants as cause
 use Rattle.hb_base.specs.declared.note.Note.{Note}
 use Rattle.hb_captured.specs.Captured as m
 use Rattle.hb_captured.specs.Captured.{Captured, due, is_raw}
@@ -21,14 +22,15 @@ use Rattle.hb_gate.specs.declared.gate.Gate.{Gate}
 use Rattle.hb_gate.specs.declared.looking.Look.{Look}
 use Rattle.hb_gate.specs.declared.looking.Look.TheVariants as look
 use Rattle.hb_gate.specs.declared.looking.Mail.{Mail}
+use Rattle.hb_gate.proofs.Fares.{calm_behind}
 use Rattle.hb_gateway.specs.Calm.{AllReset, AllTold, IsCalm, close_due}
 use Rattle.hb_gateway.specs.Gateway as machine
 use Rattle.hb_gateway.specs.Gateway.{Gateway, Phase, Stream, at_stream, carries, phase_by, stage_of}
 use Rattle.hb_gateway.specs.Hears.{hears as hears_at, posted}
 use Rattle.hb_gateway.specs.Part as gateway_part
-use Rattle.hb_gateway.specs.Part.{looked}
+use Rattle.hb_gateway.specs.Part.{lacked, looked}
 use Rattle.hb_gateway.specs.Response as response
-use Rattle.hb_gateway.specs.Response.{Heard, Stage, carrying, opens, brings, fails, heard_of}
+use Rattle.hb_gateway.specs.Response.{Heard, Stage, carrying, opens, brings, failed, fails, heard_of}
 use Rattle.hb_gateway.specs.Runs as gateways
 use Rattle.hb_kept.specs.Kept.{Fares}
 use Rattle.hb_link.proofs.Noted.{takes_none}
@@ -50,6 +52,7 @@ use Rattle.hb_relays.specs.Joining.{all, but, not_of}
 use Rattle.hb_relays.specs.Leaving.{ResetsIf}
 use Rattle.hb_relays.specs.Looking.{DeliversTo, FindsAt, FindsOn, GoesOpen, HearsLook, HearsOn, IsSettled, IsTold, LookedBy, LooksOnce, ResetsGate, ResetsOn, ServesAt, ServesOn, SettledBy, Settles, ShowsOpen, after_look}
 use Rattle.hb_relays.specs.Pumping.{NoneDue}
+use Rattle.hb_relays.specs.Reaches.{IsInner}
 use Rattle.hb_relays.specs.Touched.{is_touched, touched}
 use Rattle.hb_relays.specs.Shows.{IsGateAway, ShowsGate, ShowsRelay}
 use Rattle.hb_relays.specs.Walks.{gate_touched_at, with_gate}
@@ -146,10 +149,19 @@ same_then a b c one two = record {
   stages = λ s. two.stages s ∙ one.stages s;
 }
 
-behind_kind : (told : Found) → (phase_by machine.serving told ≡ machine.serving)
-    ⊎ ((code : ℕ) × (phase_by machine.serving told ≡ machine.faulted code))
-behind_kind (found.Fault code) = inr (code, refl)
+-- it serves, or no stream of it is reset any more
+abbrev pub IsKind : Phase → Type 0
+IsKind phase = (phase ≡ machine.serving) ⊎ ((carries phase ≡ false) × IsGateThere phase)
+
+behind_kind : (told : Found) → IsKind (phase_by machine.serving told)
+behind_kind (found.Fault code) = inr (refl, tt)
 behind_kind told = inl refl
+
+-- then it is settled once each tunnel was told
+ended_settled : (phase : Phase) (w : Gateway) → carries phase ≡ false → SettledBy phase w
+ended_settled machine.opening w is = absurd (true≢false is)
+ended_settled machine.serving w is = absurd (true≢false is)
+ended_settled phase w is = tt
 
 away_there : (phase : Phase) → IsGateAway phase → IsGateThere phase → ⊥
 away_there machine.unborn away there = there
@@ -166,15 +178,15 @@ kept_there g k n z shows there = by (get k.gates n) refl
         absurd (away_there (z.gates n).phase (subst (λ (o : Option Gate). ShowsGate n o (z.gates n)) none (shows.gates n)) there)
     by (Some w) is = ap is_some is
 
--- BEHIND A LOOK a side of each stream that is to be reset is open, and there is room once they are; and it serves, or is at fault
+-- BEHIND A LOOK a side of each stream that is to be reset is open, and there is room once they are; and it serves, or is to be closed
 pub record Behind (n : ℕ) (y : Gateway) : Type 0 where
   pub active : gate.AreActive y
   pub fares : gate.FaresOn n y
-  pub kind : (y.phase ≡ machine.serving) ⊎ ((code : ℕ) × (y.phase ≡ machine.faulted code))
+  pub kind : IsKind y.phase
 
 -- where all is settled, and looked at where it was
 abbrev pub Settled : Gateway → Gateway → Type 0
-Settled y w = IsSettled w × (IsLookedAt y.conn → IsLookedAt w.conn)
+Settled y w = IsSettled w × (IsLookedAt y.conn → IsLookedAt w.conn) × (w.phase ≡ y.phase)
 
 -- STREAMS ARE RESET, where each tunnel was told
 module _ (g : NodeConfig) (n : ℕ) (z : Machine) (points : List Point) (stands : StandsFor g z points) (k r : Relays) (told : Told)
@@ -187,11 +199,11 @@ module _ (g : NodeConfig) (n : ℕ) (z : Machine) (points : List Point) (stands 
   looked_still : IsLookedAt y.conn → IsLookedAt (z.gates n).conn
   looked_still at = subst IsLookedAt (sym same.conn) at
 
-  faulted_settles : (code : ℕ) → y.phase ≡ machine.faulted code → GoesOpen n (Settled y) g z r told told
-  faulted_settles code at =
-      let phase : (z.gates n).phase ≡ machine.faulted code = same.phase ∙ at in
+  ended_settles : carries y.phase ≡ false → GoesOpen n (Settled y) g z r told told
+  ended_settles at =
+      let phase : carries (z.gates n).phase ≡ false = ap carries same.phase ∙ at in
       let unchanged : after ≡ kept =
-      subst (λ (c : Bool). ResetsIf c kept after) (carrying_so (z.gates n) here.1 ∙ ap carries phase) resets in
+      subst (λ (c : Bool). ResetsIf c kept after) (carrying_so (z.gates n) here.1 ∙ phase) resets in
       record {
         goes = record {
           more = [];
@@ -203,7 +215,7 @@ module _ (g : NodeConfig) (n : ℕ) (z : Machine) (points : List Point) (stands 
           undue = λ l un. un;
           noted = takes_none told;
         };
-        here = ((all_told, subst (λ (p : Phase). SettledBy p (z.gates n)) (sym phase) tt), looked_still);
+        here = ((all_told, ended_settled (z.gates n).phase (z.gates n) phase), looked_still, same.phase);
       }
 
   serving_settles : y.phase ≡ machine.serving → GoesOpen n (Settled y) g z r told told
@@ -237,15 +249,15 @@ module _ (g : NodeConfig) (n : ℕ) (z : Machine) (points : List Point) (stands 
           undue = λ l un stage. un (ap (λ (f : ℕ → Captured). (f l).stage) (sym go.plain) ∙ stage);
           noted = subst (λ (ns : List Note). Takes told ns told) (sym go.noted) (takes_none told);
         };
-        here = subst (Settled y) (sym go.here) (settled, λ seen. leave.looked (looked_still seen));
+        here = subst (Settled y) (sym go.here) (settled, λ seen. leave.looked (looked_still seen), phase_w ∙ sym at);
       }
 
   pub resets_settle : GoesOpen n (Settled y) g z r told told
-  resets_settle = ⊎_elim (λ at. serving_settles at) (λ at. faulted_settles at.0 at.1) behind.kind
+  resets_settle = ⊎_elim (λ at. serving_settles at) (λ at. ended_settles at.0) behind.kind
 
-there_of : (y : Gateway) → (y.phase ≡ machine.serving) ⊎ ((code : ℕ) × (y.phase ≡ machine.faulted code)) → IsGateThere y.phase
+there_of : (y : Gateway) → IsKind y.phase → IsGateThere y.phase
 there_of y (inl at) = subst IsGateThere (sym at) tt
-there_of y (inr at) = subst IsGateThere (sym at.1) tt
+there_of y (inr at) = at.1
 
 -- EACH TUNNEL IS TOLD, AND THEN STREAMS ARE RESET
 pub settle_then : (g : NodeConfig) (n : ℕ) (z : Machine) (points : List Point) → StandsFor g z points → (k a r : Relays) (told now : Told)
@@ -286,6 +298,34 @@ untold_stage s j t = by (j == s)
     by true = refl
     by false = refl
 
+-- A PART IS TAKEN: the link is what it makes of it, and the others stay
+here_behind : (n : ℕ) (p : gateway_part.Part) (y : Gateway) (x : Machine) → (with_gateway n p y x).gates n ≡ y
+here_behind n p y x = ap (λ (b : Bool). cond b y (x.gates n)) (eq-eqb n n refl)
+
+others_behind : (n : ℕ) (p : gateway_part.Part) (y : Gateway) (x : Machine) (j : ℕ) → j ≢ n → (with_gateway n p y x).gates j ≡ x.gates j
+others_behind n p y x j apart = ap (λ (b : Bool). cond b y (x.gates j)) (ne_eqb j n apart)
+
+-- of which no tunnel is told
+quiet_open : (g : NodeConfig) (n : ℕ) (x : Machine) (old : Relays) → ShowsOpen n g old (outward x) → NoneDue x → (kept after : Gate)
+    → get old.gates n ≡ Some kept → (p : gateway_part.Part) (y : Gateway) → Steps g x (of_gate n p) (with_gateway n p y x)
+    → IsInner (of_gate n p) → ShowsGate n (Some after) y → (told : Told)
+    → GoesOpen n (SameBut y) g x (gate_touched_at n (with_gate n after old)) told told
+quiet_open g n x old shows none kept after is p y steps inner shown_so told =
+    let z = with_gateway n p y x in
+    let here = here_behind n p y x in
+    record {
+      goes = record {
+        more = of_gate n p ∷ [];
+        reached = z;
+        leads = (inner, z, steps, refl);
+        shows = turned_open g old n x z shows none refl refl (others_behind n p y x) kept after is
+            (subst (ShowsGate n (Some after)) (sym here) shown_so);
+        undue = λ l un. un;
+        noted = takes_none told;
+      };
+      here = subst (SameBut y) (sym here) (record { phase = refl; conn = refl; stages = λ s. refl });
+    }
+
 -- A LOOK IS TAKEN
 module _ (g : NodeConfig) (n : ℕ) (x : Machine) (points : List Point) (stands : StandsFor g x points) (old : Relays)
     (shows : ShowsOpen n g old (outward x)) (none : NoneDue x) (kept : Gate) (is : get old.gates n ≡ Some kept) (may : MayLook (x.gates n))
@@ -306,10 +346,10 @@ module _ (g : NodeConfig) (n : ℕ) (x : Machine) (points : List Point) (stands 
   z_steps = (y, looks_n, tt, refl)
 
   z_here : z.gates n ≡ y
-  z_here = ap (λ (b : Bool). cond b y (x.gates n)) (eq-eqb n n refl)
+  z_here = here_behind n p y x
 
   z_other : (j : ℕ) → j ≢ n → z.gates j ≡ x.gates j
-  z_other j apart = ap (λ (b : Bool). cond b y (x.gates j)) (ne_eqb j n apart)
+  z_other j apart = others_behind n p y x j apart
 
   abbrev points_z : List Point
   points_z = points ++ of_gate n p ∷ []
@@ -327,30 +367,16 @@ module _ (g : NodeConfig) (n : ℕ) (x : Machine) (points : List Point) (stands 
   look_behind = record {
     active = looked_active n (x.gates n) y into.looks.points into.looks.told into.looks.headers looks_n;
     fares = subst (λ (i : ℕ). gate.FaresOn i y) here_x.0 into.fares;
-    kind = subst (λ (q : Phase). (q ≡ machine.serving) ⊎ ((code : ℕ) × (q ≡ machine.faulted code))) (sym phase_is)
-        (behind_kind into.looks.told);
+    kind = subst IsKind (sym phase_is) (behind_kind into.looks.told);
   }
 
   abbrev After : Relays
   After = gate_touched_at n (with_gate n after old)
 
-  self_same : SameBut y y
-  self_same = record { phase = refl; conn = refl; stages = λ s. refl }
-
   -- of which no tunnel is told
-  pub quiet_open : (told : Told) → shown.Shows after y → GoesOpen n (SameBut y) g x After told told
-  quiet_open told shown_so = record {
-    goes = record {
-      more = of_gate n p ∷ [];
-      reached = z;
-      leads = (tt, z, z_steps, refl);
-      shows = turned_open g old n x z shows none refl refl z_other kept after is
-          (subst (ShowsGate n (Some after)) (sym z_here) (number ∙ here_x.0, shown_so, there_y));
-      undue = λ l un. un;
-      noted = takes_none told;
-    };
-    here = subst (SameBut y) (sym z_here) self_same;
-  }
+  pub quiet_look : (told : Told) → shown.Shows after y → GoesOpen n (SameBut y) g x After told told
+  quiet_look told shown_so =
+      quiet_open g n x old shows none kept after is p y z_steps tt (number ∙ here_x.0, shown_so, there_y) told
 
   -- or of which this one is
   module _ (s begun l : ℕ) (heard : Heard) (of : TellsOf s heard begun l y after) where
@@ -447,6 +473,17 @@ module _ (g : NodeConfig) (n : ℕ) (x : Machine) (points : List Point) (stands 
                   (record { phase = refl; conn = refl; stages = λ j. untold_stage s j (y.streams j) });
             })
 
+-- MEMORY LACKS FOR A HEADER BLOCK: each tunnel ends, and no stream is reset
+lacks_behind : (n : ℕ) (x y : Gateway) → MayLook x → gateways.Steps n x lacked y → Behind n y
+lacks_behind n x y may steps =
+    subst (Behind n) (sym steps.1) (record {
+      active = λ s fails_so.
+          absurd (false≢true (sym (calm_behind lacked (stage_of x s) (failed cause.NoMemory (stage_of x s)) (λ why. refl) (may.reset s))
+          ∙ fails_so));
+      fares = tt;
+      kind = inr (refl, tt);
+    })
+
 -- ONE LOOK
 looked_by : (phase : Phase) (conn : Connection) → IsLookedAt conn → LookedBy phase conn
 looked_by machine.serving conn seen = seen
@@ -510,7 +547,7 @@ module _ (n : ℕ) (old k2 k3 k4 k5 : Relays) (bytes : List ℕ) (told one two :
       rest y (look_behind g n x points stands old shows none kept is may y into after number)
       (subst (λ (t : Told). GoesOpen n (SameBut y) g x k3 told t) (sym one_is)
       (subst (λ (k : Relays). GoesOpen n (SameBut y) g x k told told) (sym (k3_is ∙ k2_is))
-      (quiet_open g n x points stands old shows none kept is may y into after number told shown_so)))
+      (quiet_look g n x points stands old shows none kept is may y into after number told shown_so)))
 
   heard_so : (s begun l : ℕ) (heard : Heard) → LooksTold s heard begun l kept after → HearsOn heard begun l (get k2.relays l) k2 told k3 one
       → GoesOpen n IsSettled g x k5 told two
@@ -535,6 +572,22 @@ module _ (n : ℕ) (old k2 k3 k4 k5 : Relays) (bytes : List ℕ) (told one two :
       (λ (w : Gateway). MayLook w → (y : Gateway) × LooksInto kept.number w y × shown.Shows after y) looks.1 may in
       let settled = quietly got.0 got.1 looks.0 got.2 hears_it.0 hears_it.1 in
       record { goes = settled.goes; here = settled.here.0 }
+  found_so look.Lacked looks hears_it =
+      let got = each_shown g x points stands n kept kept_here (λ (w : Gateway). MayLook w → gate.Goes lacked w after) looks.1 may in
+      let number : after.number ≡ n = looks.0 ∙ kept_here.0 in
+      let steps = subst (λ (i : ℕ). gateways.Steps i (x.gates n) lacked got.next) number got.steps in
+      let closing = ap (λ (u : Gateway). u.phase) steps.1 in
+      let there : IsGateThere got.next.phase = subst IsGateThere (sym closing) tt in
+      let quiet =
+      quiet_open g n x old shows none kept after is lacked got.next (got.next, steps, tt, refl) tt (number, got.shows, there) told in
+      let settled = rest got.next (lacks_behind n (x.gates n) got.next may steps)
+      (subst (λ (t : Told). GoesOpen n (SameBut got.next) g x k3 told t) (sym hears_it.1)
+      (subst (λ (k : Relays). GoesOpen n (SameBut got.next) g x k told told) (sym (hears_it.0 ∙ k2_is)) quiet)) in
+      let w = settled.goes.reached.gates n in
+      record {
+        goes = settled.goes;
+        here = (settled.here.0, unless w.phase w.conn (λ at. let no = sym closing ∙ sym settled.here.2 ∙ at in cc no));
+      }
   found_so (look.Opens s l end) looks hears_it = heard_so s looks.0 l (opens end) looks.1 (hears_it looks.0)
   found_so (look.Brings s l) looks hears_it = heard_so s looks.0 l (brings bytes) looks.1 (hears_it looks.0)
   found_so (look.Ends s l) looks hears_it = heard_so s looks.0 l response.ends looks.1 (hears_it looks.0)

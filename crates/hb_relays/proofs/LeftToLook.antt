@@ -74,6 +74,7 @@ heard_gates heard begun l (Some link) k m told now it = ap (λ (r : Relays). r.g
 look_gates : (found : Look) (bytes : List ℕ) (k m : Relays) (told now : Told) → HearsLook found bytes k told m now → m.gates ≡ k.gates
 look_gates look.Nothing bytes k m told now it = ap (λ (r : Relays). r.gates) it.0
 look_gates look.Passed bytes k m told now it = ap (λ (r : Relays). r.gates) it.0
+look_gates look.Lacked bytes k m told now it = ap (λ (r : Relays). r.gates) it.0
 look_gates (look.Opens s l end) bytes k m told now it = heard_gates (opens end) 0 l (get k.relays l) k m told now (it 0)
 look_gates (look.Brings s l) bytes k m told now it = heard_gates (brings bytes) 0 l (get k.relays l) k m told now (it 0)
 look_gates (look.Ends s l) bytes k m told now it = heard_gates ends 0 l (get k.relays l) k m told now (it 0)

@@ -93,6 +93,7 @@ Hears heard begun l old told new now = HearsOn heard begun l (get old.relays l) 
 abbrev pub HearsLook : Look → List ℕ → Relays → Told → Relays → Told → Type 0
 HearsLook look.Nothing bytes old told new now = (new ≡ old) × (now ≡ told)
 HearsLook look.Passed bytes old told new now = (new ≡ old) × (now ≡ told)
+HearsLook look.Lacked bytes old told new now = (new ≡ old) × (now ≡ told)
 HearsLook (look.Opens s l end) bytes old told new now = (begun : ℕ) → Hears (opens end) begun l old told new now
 HearsLook (look.Brings s l) bytes old told new now = (begun : ℕ) → Hears (brings bytes) begun l old told new now
 HearsLook (look.Ends s l) bytes old told new now = (begun : ℕ) → Hears ends begun l old told new now

@@ -18,6 +18,7 @@ use Rattle.hb_relays.specs.declared.relays.Relays.{Relays}
 
 -- a part of a link to a gateway that follows by itself
 abbrev pub IsGateInner : gateway.Part → Type 0
+IsGateInner gateway.lacked = ⊤
 IsGateInner (gateway.looked points told headers) = ⊤
 IsGateInner (gateway.reset s code) = ⊤
 IsGateInner p = ⊥

@@ -27,11 +27,11 @@ fn is_writable(key: &Key) -> bool
     }
 }
 
-/// Something was found.
+/// Something was found, and more may be.
 fn is_more(look: Look) -> bool
     ensures { result ≡ is_more look }
 {
-    !matches!(look, Look::Nothing)
+    !matches!(look, Look::Nothing | Look::Lacked)
 }
 
 impl Relays {
@@ -186,7 +186,7 @@ impl Relays {
         ensures stirs { Stirs self.old self.new }
     {
         match look {
-            Look::Nothing | Look::Passed => {}
+            Look::Nothing | Look::Passed | Look::Lacked => {}
             Look::Opens { link, end, .. } => self.open_stream(link, end, notes),
             Look::Brings { link, .. } => self.bring(link, bytes),
             Look::Ends { link, .. } => self.end_stream(link),

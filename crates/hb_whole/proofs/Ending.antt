@@ -339,11 +339,17 @@ none_carries c gateway.serving ends carries = ends
 none_carries c (gateway.faulted code) ends carries = absurd cc
 none_carries c (gateway.closing why) ends carries = absurd cc
 
+-- nor may memory lack there
+gate_lacks : (c : Cause) (phase : gateway.Phase) (x : Gateway) → GateEnds c phase → gateway_runs.Lacks phase x → ⊥
+gate_lacks c gateway.serving x ends lacks = ends
+gate_lacks c phase x ends lacks = lacks
+
 -- and goes on ending so
 gate_step : (c : Cause) (n : ℕ) (x y : Gateway) (p : gate_part.Part) → relays_reach.IsInner (of_gate n p) → GateEnds c x.phase
     → gateway_runs.Steps n x p y → GateEnds c y.phase
 gate_step c n x y (gate_part.looked points told headers) inner ends steps =
     absurd (subst (λ (q : gateway.Phase). GateEnds c q) steps.0 ends)
+gate_step c n x y gate_part.lacked inner ends steps = absurd (gate_lacks c x.phase x ends steps.0)
 gate_step c n x y (gate_part.reset s code) inner ends steps = absurd (none_carries c x.phase ends steps.0)
 gate_step c n x y (gate_part.entry z) inner ends steps = absurd inner
 gate_step c n x y _ inner ends steps = absurd inner
