@@ -35,7 +35,7 @@ pub front_length : (xs : List ℕ) (to gap k : ℕ) → to + gap + k ≤ length 
 front_length xs to gap k within =
     let long : length (take to xs) ≡ to = length-take-le to xs (omega (arith, within)) in
     let short : length (take k (drop (to + gap) xs)) ≡ k =
-        length-take-le k (drop (to + gap) xs) (rw (length-drop (to + gap) xs) (omega (arith, within))) in
+    length-take-le k (drop (to + gap) xs) (rw (length-drop (to + gap) xs) (omega (arith, within))) in
     length-append (take to xs) (take k (drop (to + gap) xs)) ∙ ap₂ (λ a b. a + b) long short
 
 -- as many bytes stand there as before
@@ -64,8 +64,8 @@ pub part_moved : (old now : List ℕ) (gap to k : ℕ) → to + gap + k ≤ leng
     → drop to now ≡ drop to old → take (to + k) (part now to gap k) ≡ take (to + k) (drop gap old)
 part_moved old now gap to k within moved behind =
     let stands : drop (to + gap) now ≡ drop to (drop gap old) =
-        sym (drop-drop gap to now) ∙ ap (drop gap) behind ∙ drop-drop gap to old ∙ ap (λ n. drop n old) (omega arith)
-        ∙ sym (drop-drop to gap old) in
+    sym (drop-drop gap to now) ∙ ap (drop gap) behind ∙ drop-drop gap to old ∙ ap (λ n. drop n old) (omega arith)
+    ∙ sym (drop-drop to gap old) in
     front_part now to gap k within ∙ ap₂ (λ a b. a ++ take k b) moved stands ∙ sym (take-add to k (drop gap old))
 
 -- what is held stands at the front
@@ -75,18 +75,18 @@ at_front old new from to n is stands = ap (λ m. take m new) (omega arith) ∙ s
 -- bytes between two places were cut out of what is held, and those behind them moved down
 pub cut_out : (old : List ℕ) (from at n to : ℕ) → from + (at + n) ≤ to → to ≤ length old
     → slice_range (copy_within old (from + at + n) to (from + at)) from (to - n)
-      ≡ take at (slice_range old from to) ++ drop (at + n) (slice_range old from to)
+    ≡ take at (slice_range old from to) ++ drop (at + n) (slice_range old from to)
 cut_out old from at n to order within =
     let place = from + at in
     let k = to - (place + n) in
     let xs = take place old in
     let ends : place + k ≡ to - n = omega (arith, order) in
     let taken : take (to - n) (part old place n k) ≡ xs ++ take k (drop (place + n) old) =
-        ap (λ m. take m (part old place n k)) (sym ends) ∙ front_part old place n k (omega (arith, order, within)) in
+    ap (λ m. take m (part old place n k)) (sym ends) ∙ front_part old place n k (omega (arith, order, within)) in
     let front : drop from xs ≡ take at (slice_range old from to) =
-        drop-take from at old ∙ sym (take-take at (to - from) (drop from old) (omega (arith, order))) in
+    drop-take from at old ∙ sym (take-take at (to - from) (drop from old) (omega (arith, order))) in
     let back : take k (drop (place + n) old) ≡ drop (at + n) (slice_range old from to) =
-        ap (λ m. slice_range old m to) (omega arith) ∙ gone old from (at + n) to order in
+    ap (λ m. slice_range old m to) (omega arith) ∙ gone old from (at + n) to order in
     let enough : from ≤ length xs = rw (length-take-le place old (omega (arith, order, within))) (omega arith) in
     range_is (part old place n k) from (to - n) (omega (arith, order)) ∙ ap (drop from) taken
     ∙ drop-append-le from xs (take k (drop (place + n) old)) enough ∙ ap₂ (λ a b. a ++ b) front back

@@ -14,6 +14,7 @@ pub mod Gone
 pub mod Handled
 pub mod Heard
 pub mod Idle
+pub mod Lacking
 pub mod Leaves
 pub mod Living
 pub mod Loads

@@ -14,7 +14,7 @@ use Rattle.hb_tunnel.specs.Tunnel.{up_size}
 use Rattle.hb_tunnel.specs.Way.{after, pushes, ends}
 use Rattle.hb_verdict.specs.Request.{request_of}
 use Rattle.hb_inbound.specs.Calm.{IsAnswered}
-use Rattle.hb_inbound.specs.Inbound.{Inbound, at_stream, ends_with, faulted}
+use Rattle.hb_inbound.specs.Inbound.{Inbound, at_stream, ends_with, faulted, lacking}
 use Rattle.hb_inbound.specs.Runs.{failure_status, end_code}
 use Rattle.hb_inbound.specs.Tunnel.{ends_for}
 use Rattle.hb_frames.specs.Numbers.{largest}
@@ -119,6 +119,13 @@ pub record FaultsFor (code : ℕ) (k : Link) (x : Inbound) : Type 0 where
   pub numbered : (s : ℕ) → is_some (get k.tunnels s) ≡ true → s ≤ largest
   pub answered : IsAnswered before
   pub is : x ≡ ends_with (faulted code) (cause.ConnFault code) before
+
+-- memory was wanting for the machine's link, and its tunnels have ended; the code's connection counts no more
+pub record LacksMemory (k : Link) (x : Inbound) : Type 0 where
+  pub before : Inbound
+  pub tunnels : ShowsTunnels k before
+  pub numbered : (s : ℕ) → is_some (get k.tunnels s) ≡ true → s ≤ largest
+  pub is : x ≡ lacking before
 
 -- what is heard is still to be followed
 abbrev pub HasHeard : Heard → Link → Inbound → Type 0

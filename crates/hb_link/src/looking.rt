@@ -1,9 +1,9 @@
 //! All that came on the connection is looked at.
 
-ghost use Rattle.std.specs.Prelude.{◌≡◌, ◌<◌, ℕ, true, IfOk, OnOk};
+ghost use Rattle.std.specs.Prelude.{◌≡◌, ◌<◌, ℕ, true};
 ghost use Rattle.hb_link.specs.declared.hearing.Heard.TheVariants.{Data};
 ghost use Rattle.hb_link.specs.Fronting.{HasCome};
-ghost use Rattle.hb_link.specs.Looking.{left_to_look, FaultsFor, HasHeard, IsFitting, Looked, goes_on};
+ghost use Rattle.hb_link.specs.Looking.{left_to_look, FaultsFor, LacksMemory, HasHeard, IsFitting, Looked, goes_on};
 ghost use Rattle.hb_link.specs.Rousing.{Rouses, roused_on};
 ghost use Rattle.hb_link.specs.Settling.{MayPut, MayLook, AlwaysSettles, Settles};
 
@@ -11,7 +11,7 @@ use crate::hearing::{Heard, hear};
 use crate::link::Link;
 use crate::notes::Notes;
 use crate::phase::Phase;
-use hb_base::{Cause, NoMemory};
+use hb_base::Cause;
 use hb_held::Held;
 
 impl Link {
@@ -21,6 +21,15 @@ impl Link {
         ensures rouses { Rouses self.old self.new }
     {
         self.end_with(Phase::Faulted(code), Cause::ConnFault(code));
+        self.answer_all(notes);
+    }
+
+    /// Memory is wanting for a header block of the peer: it is to be closed, and all tunnels end.
+    fn lack<N: Notes>(&mut self, notes: &mut N)
+        ensures settles { AlwaysSettles LacksMemory MayPut self.old (N.told notes.old) self.new (N.told notes.new) }
+        ensures rouses { Rouses self.old self.new }
+    {
+        self.end_with(Phase::Closing(Cause::NoMemory), Cause::NoMemory);
         self.answer_all(notes);
     }
 
@@ -55,44 +64,46 @@ impl Link {
         true
     }
 
-    /// Looks at what happens next, and says whether more may.
-    ///
-    /// Errors: `NoMemory`, behind which the run ends.
+    /// Looks at what happens next, and says whether more may. Where memory is wanting for that the link is to be closed.
     pub(crate) fn look<N: Notes>(
         &mut self,
         held: &Held,
         others: usize,
         limit: usize,
         notes: &mut N,
-    ) -> Result<bool, NoMemory>
-        ensures settles { IfOk result (λ more.
-            Settles others limit (λ h. h ≡ held.now) MayLook (Looked more) self.old (N.told notes.old) self.new (N.told notes.new)) }
-        ensures falls { IfOk result (λ more. more ≡ true → left_to_look self.new.conn < left_to_look self.old.conn) }
-        ensures rouses { OnOk result (Rouses self.old self.new) }
+    ) -> bool
+        ensures settles { Settles others limit (λ h. h ≡ held.now) MayLook (Looked result) self.old (N.told notes.old) self.new
+            (N.told notes.new) }
+        ensures falls { result ≡ true → left_to_look self.new.conn < left_to_look self.old.conn }
+        ensures rouses { Rouses self.old self.new }
     {
-        let told = self.conn.next_happening()?;
-        let heard = hear(&mut self.tunnels, self.destination, told);
-        Ok(self.follow(held, others, limit, heard, notes))
+        match self.conn.next_happening() {
+            Ok(told) => {
+                let heard = hear(&mut self.tunnels, self.destination, told);
+                self.follow(held, others, limit, heard, notes)
+            }
+            Err(_) => {
+                self.lack(notes);
+                false
+            }
+        }
     }
 
     /// Looks at all that came, where it is a connection.
-    ///
-    /// Errors: `NoMemory`, behind which the run ends.
     pub(crate) fn look_all<N: Notes>(
         &mut self,
         held: &Held,
         others: usize,
         limit: usize,
         notes: &mut N,
-    ) -> Result<(), NoMemory>
-        ensures settles { OnOk result (Settles others limit (λ h. h ≡ held.now) (λ k x. HasCome x.phase k x) MayPut self.old
-            (N.told notes.old) self.new (N.told notes.new)) }
-        ensures rouses { OnOk result (Rouses self.old self.new) }
+    )
+        ensures settles { Settles others limit (λ h. h ≡ held.now) (λ k x. HasCome x.phase k x) MayPut self.old (N.told notes.old) self.new
+            (N.told notes.new) }
+        ensures rouses { Rouses self.old self.new }
     {
         if !self.phase.is_serving() {
-            return Ok(());
+            return;
         }
-        while self.look(held, others, limit, notes)? {}
-        Ok(())
+        while self.look(held, others, limit, notes) {}
     }
 }

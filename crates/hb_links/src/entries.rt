@@ -1,13 +1,12 @@
 //! What comes and goes on links that are open.
 
-ghost use Rattle.std.specs.Prelude.{◌≡◌, ◌≤◌, ◌-◌, ◌^◌, min, length, OnOk};
+ghost use Rattle.std.specs.Prelude.{◌≡◌, ◌≤◌, ◌-◌, ◌^◌, min, length};
 ghost use Rattle.hb_world.specs.declared.entry.Entry.TheVariants as e;
 ghost use Rattle.hb_links.specs.Calls.{Enters, Goes, Takes, wants_of, held_of};
 ghost use Rattle.hb_links.specs.Load.{others_of, Recounts};
 ghost use Rattle.hb_links.specs.Stirring.{Stirs};
 
 use crate::links::Links;
-use hb_base::NoMemory;
 use hb_held::Held;
 use hb_link::Notes;
 
@@ -37,9 +36,8 @@ impl Links {
         self.touch(place.link, before);
     }
 
-    /// These bytes were read, while this was held. A request finds all places taken where `limit` tunnels of all links take one.
-    ///
-    /// Errors: `NoMemory`, behind which the run ends.
+    /// These bytes were read, while this was held. A request finds all places taken where `limit` tunnels of all links take one. Where
+    /// memory is wanting for a header block that came, its link alone is to be closed.
     pub fn took<N: Notes>(
         &mut self,
         number: u64,
@@ -47,18 +45,18 @@ impl Links {
         limit: usize,
         b: &[u8],
         notes: &mut N,
-    ) -> Result<(), NoMemory>
+    )
         requires { length b.now ≤ wants_of self.old number }
-        ensures meets { OnOk result (Takes held.now (others_of self.old number) limit number b.now self.old (N.told notes.old) self.new
-            (N.told notes.new)) }
-        ensures stirs { OnOk result (Stirs self.old self.new) }
-        ensures counts { OnOk result (Recounts self.old self.new) }
+        ensures meets { Takes held.now (others_of self.old number) limit number b.now self.old (N.told notes.old) self.new
+            (N.told notes.new) }
+        ensures stirs { Stirs self.old self.new }
+        ensures counts { Recounts self.old self.new }
     {
         match self.ups.get(number).copied() {
             Some(place) => {
                 let before = self.places_at(place.link);
                 let Some(link) = self.links.at(place.link) else {
-                    return Ok(());
+                    return;
                 };
                 link.up_bytes(place.stream, b);
                 self.touch(place.link, before);
@@ -67,13 +65,12 @@ impl Links {
                 let before = self.places_at(number);
                 let others = other_places(self.taken, before);
                 let Some(link) = self.links.at(number) else {
-                    return Ok(());
+                    return;
                 };
-                link.take_bytes(held, others, limit, b, notes)?;
+                link.take_bytes(held, others, limit, b, notes);
                 self.touch(number, before);
             }
         }
-        Ok(())
     }
 
     /// The peer of the link of this number sends no more.

@@ -59,14 +59,7 @@ impl Life {
 
     fn come(&mut self, rt: &impl Abort, at: At, octets: &[u8]) {
         must(rt, at, octets.len() <= self.link.wants());
-        let took = self.link.take_bytes(
-            &self.held,
-            self.others,
-            self.limit,
-            octets,
-            &mut self.told,
-        );
-        took.ok().expect(rt, "memory");
+        self.link.take_bytes(&self.held, self.others, self.limit, octets, &mut self.told);
     }
 
     /// What waits is written, and is put behind what went.

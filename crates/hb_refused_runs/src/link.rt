@@ -1,18 +1,17 @@
 //! Of hb_link.
 
-ghost use Rattle.std.specs.Prelude.{◌≡◌, ◌≤◌, false, length, IfSome, OnOk};
+ghost use Rattle.std.specs.Prelude.{◌≡◌, ◌≤◌, false, length, IfSome};
 ghost use Rattle.hb_held.specs.Few.{AreTouched};
 ghost use Rattle.hb_link.specs.Acts.{Acts};
 ghost use Rattle.hb_link.specs.Calls.{Takes, Updates, UpGoes};
 ghost use Rattle.hb_link.specs.Observed.{wants_on, up_held_on};
 ghost use Rattle.hb_link.specs.Rousing.{Rouses};
 
-use hb_base::NoMemory;
 use hb_held::{Few, Held};
 use hb_link::{Link, Notes};
 use hb_world::Act;
 
-/// `Link::take_bytes`, with its Errors.
+/// `Link::take_bytes`.
 pub fn take_bytes<N: Notes>(
     link: &mut Link,
     held: &Held,
@@ -20,12 +19,12 @@ pub fn take_bytes<N: Notes>(
     limit: usize,
     b: &[u8],
     notes: &mut N,
-) -> Result<(), NoMemory>
+)
     requires { length b.now ≤ wants_on link.old }
-    ensures takes { OnOk result (Takes held.now others limit b.now link.old (N.told notes.old) link.new (N.told notes.new)) }
-    ensures rouses { OnOk result (Rouses link.old link.new) }
+    ensures takes { Takes held.now others limit b.now link.old (N.told notes.old) link.new (N.told notes.new) }
+    ensures rouses { Rouses link.old link.new }
 {
-    link.take_bytes(held, others, limit, b, notes)
+    link.take_bytes(held, others, limit, b, notes);
 }
 
 /// `Link::judge_all`.

@@ -294,7 +294,8 @@ impl Proxy {
                 let held = self.control.held();
                 self.side
                     .links
-                    .took(link, held, places, bytes, &mut self.side.notes)
+                    .took(link, held, places, bytes, &mut self.side.notes);
+                Ok(())
             }
         }
     }

@@ -14,7 +14,7 @@ loop-at-preserved c =
       within = omega (arith, c.loop-at-test.true);
       length = ap length c.move_part.ensures ∙ part_length now at from from within ∙ stood.length;
       moved = ap (take (at + from)) c.move_part.ensures ∙ part_moved old now from at from within stood.moved stood.behind;
-      behind = ap (drop (at + from)) c.move_part.ensures ∙ behind_part old now from at from within stood.behind
+      behind = ap (drop (at + from)) c.move_part.ensures ∙ behind_part old now from at from within stood.behind;
     }
 
 pub returns-clause-value : goal.returns-clause-value

@@ -6,7 +6,7 @@ invariant-loop-at l = record {
   within : l.at ≤ l.initial.n;
   length : length l.bytes ≡ length l.initial.bytes;
   moved : take l.at l.bytes ≡ take l.at (drop l.initial.from l.initial.bytes);
-  behind : drop l.at l.bytes ≡ drop l.at l.initial.bytes
+  behind : drop l.at l.bytes ≡ drop l.at l.initial.bytes;
 }
 
 abbrev pub decreases-loop-at : goal.decreases-loop-at

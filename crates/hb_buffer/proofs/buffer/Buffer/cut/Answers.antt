@@ -12,5 +12,5 @@ returns c =
     let moved = rw c.as_mut_slice.ensures.value at c.copy_within.ensures.after in
     let full = c.copy_within.ensures.len ∙ c.as_mut_slice.ensures.len in
     rw (sym c.self.view_is, with_items_is b.bytes c.copy_within.new.self full, moved)
-      (ap (λ xs. record { items = xs; size = b.size })
-        (cut_out b.bytes.items b.start c.args.at c.args.n b.end within (omega (arith, c.self.invariant))))
+    (ap (λ xs. record { items = xs; size = b.size })
+    (cut_out b.bytes.items b.start c.args.at c.args.n b.end within (omega (arith, c.self.invariant))))

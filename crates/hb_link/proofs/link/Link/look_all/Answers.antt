@@ -32,8 +32,8 @@ loop-preserved g c =
       settles_then (places c.args.others c.args.limit) (λ h. h ≡ c.args.held.now) MayLook MayLook MayLook c.args.self.now c.loop.self c.look.new.self
           (g.N.Notes.told c.args.notes.now) told now c.loop.invariant.0
           (subst (λ (b : Bool). Settles c.args.others c.args.limit (λ h. h ≡ c.args.held.now) MayLook (Looked b) c.loop.self told c.look.new.self
-          now) c.if-branch.true c.in_ok-look.ensures.settles),
-      rouses_then c.args.self.now c.loop.self c.look.new.self c.loop.invariant.1 c.in_ok-look.ensures.rouses,
+          now) c.loop-test.true c.look.ensures.settles),
+      rouses_then c.args.self.now c.loop.self c.look.new.self c.loop.invariant.1 c.look.ensures.rouses,
     )
 
 pub returns-clause-settles : goal.returns-clause-settles
@@ -43,7 +43,7 @@ returns-clause-settles g c =
     let told = g.N.Notes.told c.loop.notes in
     let now = g.N.Notes.told c.look.new.notes in
     let last = subst (λ (b : Bool). Settles c.args.others c.args.limit (λ h. h ≡ c.args.held.now) MayLook (Looked b) c.loop.self told
-    c.look.new.self now) c.if-branch.false c.in_ok-look.ensures.settles in
+    c.look.new.self now) c.loop-test.false c.look.ensures.settles in
     settles_from c.args.others c.args.limit (λ h. h ≡ c.args.held.now) (λ n x. HasCome x.phase n x) MayLook MayPut k c.look.new.self first
     now (λ x come. looks_first k x (search rules) come)
     (settles_then (places c.args.others c.args.limit) (λ h. h ≡ c.args.held.now) MayLook MayLook MayPut k c.loop.self c.look.new.self first told now
@@ -54,4 +54,4 @@ returns-then-not-is_serving-clause-rouses g c = rouses_same c.args.self.now c.ar
 
 pub returns-clause-rouses : goal.returns-clause-rouses
 returns-clause-rouses g c =
-    rouses_then c.args.self.now c.loop.self c.look.new.self c.loop.invariant.1 c.in_ok-look.ensures.rouses
+    rouses_then c.args.self.now c.loop.self c.look.new.self c.loop.invariant.1 c.look.ensures.rouses

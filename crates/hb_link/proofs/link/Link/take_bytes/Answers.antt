@@ -27,7 +27,7 @@ returns-clause-takes g c =
     let told = g.N.Notes.told c.args.notes.now in
     let now = g.N.Notes.told c.put_all.new.notes in
     let settles = settles_then (places c.args.others c.args.limit) (λ h. h ≡ held) (λ n x. HasCome x.phase n x) MayPut Shows mid
-    c.look_all.new.self new told (g.N.Notes.told c.look_all.new.notes) now c.in_ok-look_all.ensures.settles
+    c.look_all.new.self new told (g.N.Notes.told c.look_all.new.notes) now c.look_all.ensures.settles
     (λ start before a stands holds is. c.put_all.ensures.settles (places c.args.others c.args.limit) start before a stands tt is) in
     elim c.match-self.branch [
       | in-Fronting w ↦
@@ -48,4 +48,4 @@ returns-clause-rouses g c =
       | in-Serving w ↦
           rouses_same k mid (ap (λ (m : Link). m.roused) w.self-is) (ap (λ (m : Link). m.tunnels) w.self-is)
     ] in
-    rouses_then k mid c.put_all.new.self first (rouses_then mid looked c.put_all.new.self c.in_ok-look_all.ensures.rouses c.put_all.ensures.rouses)
+    rouses_then k mid c.put_all.new.self first (rouses_then mid looked c.put_all.new.self c.look_all.ensures.rouses c.put_all.ensures.rouses)

@@ -18,8 +18,8 @@ returns-in-Some-at-clause-meets g c =
     up_takes _ k c.touch.new.self _ n c.args.b.now at c.in-Some-at.link.now new (g.N.Notes.told c.args.notes.now) c.args.held.now
     (others_of k n) c.args.limit c.touch.ensures (c.at.follows.holds new) found c.in-Some-at.ensures.value (c.up_bytes.ensures.enters n)
 
-pub returns-in_ok-take_bytes-in-None-clause-meets : goal.returns-in_ok-take_bytes-in-None-clause-meets
-returns-in_ok-take_bytes-in-None-clause-meets g c =
+pub returns-in-Some-at-2-clause-meets : goal.returns-in-Some-at-2-clause-meets
+returns-in-Some-at-2-clause-meets g c =
     let k = c.args.self.now in
     let n = c.args.number in
     let new = c.take_bytes.new.self in
@@ -28,7 +28,7 @@ returns-in_ok-take_bytes-in-None-clause-meets g c =
     let is : c.other_places-others.result ≡ min (others_of k n) (2 ^ 64 - 1) =
     c.other_places-others.ensures ∙ ap (λ (own : ℕ). min (k.taken - own) (2 ^ 64 - 1)) c.places_at-before-in-None.ensures in
     let takes = subst (λ (o : ℕ). calls.Takes c.args.held.now o c.args.limit c.args.b.now c.in-Some-at-2.link.now
-    (g.N.Notes.told c.args.notes.now) new (g.N.Notes.told c.take_bytes.new.notes)) is c.in_ok-take_bytes-in-None.ensures.takes in
+    (g.N.Notes.told c.args.notes.now) new (g.N.Notes.told c.take_bytes.new.notes)) is c.take_bytes.ensures.takes in
     own_takes _ k c.touch-in-None.new.self _ n c.args.b.now c.in-Some-at-2.link.now new (g.N.Notes.told c.args.notes.now)
     (g.N.Notes.told c.take_bytes.new.notes) c.args.held.now c.args.limit c.touch-in-None.ensures
     (c.at-in-None.follows.holds new) none c.in-Some-at-2.ensures.value (takes_all c.args.held.now (others_of k n) c.args.limit
@@ -44,12 +44,12 @@ returns-in-Some-at-clause-counts g c =
     let narrow : c.in-Some.place.link < 2 ^ 64 = search rules in
     told_counts c.args.self.now c.touch.new.self _ c.in-Some.place.link _ c.up_bytes.new.self narrow c.places_at-before.ensures c.touch.ensures (c.at.follows.holds c.up_bytes.new.self)
 
-pub returns-in_ok-take_bytes-in-None-clause-stirs : goal.returns-in_ok-take_bytes-in-None-clause-stirs
-returns-in_ok-take_bytes-in-None-clause-stirs g c =
+pub returns-in-Some-at-2-clause-stirs : goal.returns-in-Some-at-2-clause-stirs
+returns-in-Some-at-2-clause-stirs g c =
     told_stirs _ c.args.self.now c.touch-in-None.new.self _ c.args.number c.in-Some-at-2.link.now c.take_bytes.new.self c.touch-in-None.ensures
-    (c.at-in-None.follows.holds c.take_bytes.new.self) c.in-Some-at-2.ensures.value c.in_ok-take_bytes-in-None.ensures.rouses
+    (c.at-in-None.follows.holds c.take_bytes.new.self) c.in-Some-at-2.ensures.value c.take_bytes.ensures.rouses
 
-pub returns-in_ok-take_bytes-in-None-clause-counts : goal.returns-in_ok-take_bytes-in-None-clause-counts
-returns-in_ok-take_bytes-in-None-clause-counts g c =
+pub returns-in-Some-at-2-clause-counts : goal.returns-in-Some-at-2-clause-counts
+returns-in-Some-at-2-clause-counts g c =
     let narrow : c.args.number < 2 ^ 64 = search rules in
     told_counts c.args.self.now c.touch-in-None.new.self _ c.args.number _ c.take_bytes.new.self narrow c.places_at-before-in-None.ensures c.touch-in-None.ensures (c.at-in-None.follows.holds c.take_bytes.new.self)

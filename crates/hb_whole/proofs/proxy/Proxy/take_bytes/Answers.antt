@@ -17,7 +17,7 @@ use Rattle.hb_whole.proofs.Guards as link
 use Rattle.hb_whole.proofs.Heard as control
 use Rattle.hb_whole.proofs.Heard.{with_state, state_tells}
 use Rattle.hb_whole.proofs.Limited.{leaves}
-use Rattle.hb_whole.proofs.Outcomes.{if_ok, three_ok, two_ok}
+use Rattle.hb_whole.proofs.Outcomes.{if_ok, two_ok}
 use Rattle.hb_whole.proofs.PlainGuards as plain
 use Rattle.hb_whole.proofs.Routes.{is_owned}
 use Rattle.hb_whole.proofs.Telling.{with_side, counting_takes, link_tells, plain_takes}
@@ -81,10 +81,7 @@ returns-in-Inbound-clause-tells c =
     let side : Side = record p.side { links = new; notes = notes } in
     let held = c.held-held-in-Inbound in
     let limit = c.places-places.result in
-    three_ok done.result
-    (Takes held.result.now (others_of p.side.links l) limit l bytes p.side.links (told p.side.notes) new (told notes))
-    (Recounts p.side.links new) (Stirs p.side.links new) (Tells Stands shown_of (e.Came l bytes) p (with_side side p))
-    (λ takes counts stirs taken trace s. link_tells p side (e.Came l bytes) l (λ q. counting (others_of p.side.links l) limit q)
+    λ taken trace s. link_tells p side (e.Came l bytes) l (λ q. counting (others_of p.side.links l) limit q)
     (λ g x. (x.control.held ≡ held.result.now) × LeavesPlaces limit g x) (counting_takes (others_of p.side.links l) limit) refl refl
     (λ taken trace s may. (
       may.0.0,
@@ -95,5 +92,4 @@ returns-in-Inbound-clause-tells c =
             (leaves taken p trace s (free taken p trace s may.0)),
       ),
     ))
-    (λ point found. takes point found s.limited.counted) counts stirs taken trace s) done.ensures.meets done.ensures.counts
-    done.ensures.stirs
+    (λ point found. done.ensures.meets point found s.limited.counted) done.ensures.counts done.ensures.stirs taken trace s
