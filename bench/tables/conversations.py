@@ -1319,16 +1319,27 @@ HEAD = '''//! Conversations of one end with a peer, python3-h2, as a machine tha
 //! and `fault`. `open`, with the number that is to be answered, `status`, `end`, `reset`, `credit` and `some`, with how many
 //! octets are to be put of those that follow, are acts of this end. `output`, which `more` goes on with, is all that waits
 //! then; `wrote` is how much of it was written. The comments say what h2 saw of that; h2 knows nothing of frames that were
-//! written by hand.
+//! written by hand. Each step ends with `\\n`; a name stands alone on a line of this file, steps as many as have room.
 '''
 PART_SIZE = 9000  # octets of a constant, since the check reads a text deeper the longer it is
+
+
+def filled(lines):
+    """The lines of a conversation in lines of the source: its name, and as many others as have room."""
+    row = ""
+    for line in lines:
+        if row and (row == f"{lines[0]}\\n" or len(row) + len(line) > 137):
+            yield row
+            row = ""
+        row += f"{line}\\n"
+    yield row
 
 
 def parts():
     """The texts of the constants, each of whole conversations, with the comments that stand in front."""
     text, comments = "", []
     for lines, saw in conversations():
-        more = "".join(f"{line}\\n\\\n" for line in lines)
+        more = "".join(f"{line}\\\n" for line in filled(lines))
         if text and len(text) + len(more) > PART_SIZE:
             yield text, comments
             text, comments = "", []

@@ -231,7 +231,7 @@ def main():
     print("//! Responses and lines, printed by bench/tables/lines_rows.py.\n")
     print("/// Blocks with an empty line between. Behind `<` stand the digits of a response to a node that held nothing at the block's")
     print("/// beginning, behind `>` the lines that it makes, and at the block's end those of what is held. In these, bytes that aren't")
-    print('/// printable ASCII, and `<`, are digits in angle brackets.\npub const TOLD: &str = r#"', end="")
+    print('/// printable ASCII, and `<`, are digits in angle brackets.\npub const TOLD: &[u8] = br#"', end="")
     blocks = [*vectors(), *names(), *refusals(), *policies(), *addresses(), *random_ones(24)]
     print("\n\n".join("\n".join(block.end()) for block in blocks) + '"#;')
 

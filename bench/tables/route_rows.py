@@ -280,9 +280,9 @@ def waypoints_by_chance():
 
 
 def quoted(lines):
-    """The lines as Rust text, those that are too long over several lines."""
+    """The lines as octets in Rust, those that are too long over several lines."""
     for line in lines:
-        line = line.replace("\\", "\\\\")
+        line = "".join(it if ord(it) < 128 else "".join(f"\\x{octet:02x}" for octet in it.encode()) for it in line.replace("\\", "\\\\"))
         parts = textwrap.wrap(line, 120, break_long_words=False, break_on_hyphens=False) if len(line) > 130 else [line]
         yield " \\\n    ".join(parts) + "\\n\\"
 
@@ -292,11 +292,11 @@ def main():
     rows = [row for table in tables for row in table()]
     print("//! Records and ways of connections, printed by bench/tables/route_rows.py, where an evaluator in Python tells each way.\n")
     print("/// Names of records, and their octets in digits.")
-    print('pub const RECORDS: &str = "\\')
+    print('pub const RECORDS: &[u8] = b"\\')
     digits = (f"{name} " + " ".join(textwrap.wrap(octets.hex(), 64)) for octets, name in RECORDS.items())
     print("\n".join(quoted(digits)) + '\n";\n')
     print("/// Resources; connections that open, or end; a source, a destination with its port, and the port of gateways; the way.")
-    print('pub const WAYS: &str = "\\')
+    print('pub const WAYS: &[u8] = b"\\')
     print("\n".join(quoted(rows)) + '\n";')
 
 

@@ -3,6 +3,7 @@
 use crate::hex::push_digits;
 use crate::told::{put, text_of};
 use hb_base::Text;
+use std::alloc::Global;
 use std::process::Abort;
 
 const ADDRESS: &str = "type.googleapis.com/istio.workload.Address";
@@ -29,44 +30,38 @@ fn counted<'a>(rt: &impl Abort, word: &'a str) -> (&'a str, usize) {
     }
 }
 
-/// The bytes of a name: `-` none, `UA` and `UZ` the type URLs of an address and of an authorization policy.
-pub fn bytes_named(rt: &(impl Abort + AllocGlobal), name: &str) -> Vec<u8> {
-    let mut bytes = Vec::new(rt.alloc());
+/// What a name stands for: `-` nothing, `UA` and `UZ` the type URLs of an address and of an authorization policy.
+pub fn text_named(name: &str) -> &'static str {
     match name {
-        "UA" => push_text(rt, &mut bytes, ADDRESS),
-        "UZ" => push_text(rt, &mut bytes, AUTHORIZATION),
-        _ => {}
+        "UA" => ADDRESS,
+        "UZ" => AUTHORIZATION,
+        _ => "",
     }
-    bytes
 }
 
-/// Bytes in words with blanks between: hexadecimal digits, two a byte, which a star and a number behind may repeat, or a name.
-pub fn bytes_of(rt: &(impl Abort + AllocGlobal), words: &str) -> Vec<u8> {
-    let mut bytes = Vec::new(rt.alloc());
+/// Appends bytes in words with blanks between: hexadecimal digits, two a byte, which a star and a number behind may repeat, or a
+/// name.
+pub fn push_words(rt: &impl Abort, bytes: &mut Vec<u8>, words: &str) {
     for word in words.split_whitespace() {
         if word.starts_with("U") {
-            let named = bytes_named(rt, word);
-            bytes
-                .extend_from_slice(named.as_slice())
-                .expect(rt, "memory");
+            push_text(rt, bytes, text_named(word));
         } else {
             let (digits, count) = counted(rt, word);
-            push_repeated(rt, &mut bytes, digits, count);
+            push_repeated(rt, bytes, digits, count);
         }
     }
-    bytes
 }
 
 /// The text of a word; `-` is the empty one.
-pub fn text_named(rt: &(impl Abort + AllocGlobal), word: &str) -> Text {
-    let mut bytes = Vec::new(rt.alloc());
+pub fn text_in(rt: &impl Abort, alloc: Global, word: &str) -> Text {
+    let mut bytes = Vec::new(alloc);
     if word != "-" {
         let (word, count) = counted(rt, word);
         for _ in 0..count {
             push_text(rt, &mut bytes, word);
         }
     }
-    text_of(rt, bytes.as_slice())
+    text_of(rt, alloc, bytes.as_slice())
 }
 
 /// A text as a row has it.

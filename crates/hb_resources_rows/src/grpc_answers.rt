@@ -1,6 +1,7 @@
 //! What each piece is answered.
 
 use crate::hex::bytes_of;
+use crate::told::{number_of, same};
 use hb_base::Or;
 use hb_grpc::Framer;
 use std::alloc::Global;
@@ -48,27 +49,35 @@ fn tell_answer(rt: &impl Abort, framer: &mut Framer, piece: &[u8], told: &mut St
     }
 }
 
-/// What the pieces of a row are answered.
-fn told_of(rt: &impl Abort, alloc: Global, limit: u32, pieces: &str) -> String {
-    let mut framer = Framer::new(alloc, limit);
-    let mut told = String::new(alloc);
+/// Tells the answer to each piece.
+fn tell_answers(
+    rt: &impl Abort,
+    alloc: Global,
+    framer: &mut Framer,
+    pieces: &str,
+    told: &mut String,
+) {
     for piece in pieces.split(' ') {
         if !told.is_empty() {
             told.push_str(", ").expect(rt, "memory");
         }
         let piece = bytes_of(rt, alloc, piece);
-        tell_answer(rt, &mut framer, piece.as_slice(), &mut told);
+        tell_answer(rt, framer, piece.as_slice(), told);
     }
-    told
+}
+
+fn assert_row(rt: &impl Abort, alloc: Global, row: &str) {
+    let (fed, want) = row.split_once("; ").unwrap_or((row, ""));
+    let (limit, pieces) = fed.split_once(" ").unwrap_or((fed, ""));
+    let mut framer = Framer::new(alloc, number_of(rt, limit));
+    let mut told = String::new(alloc);
+    tell_answers(rt, alloc, &mut framer, pieces, &mut told);
+    same(rt, row, told.as_str(), want);
 }
 
 #[test]
 fn each_piece_has_its_answer(rt: HostRuntime) {
     for row in ROWS.lines() {
-        let (fed, want) = row.split_once("; ").unwrap_or((row, ""));
-        let (limit, pieces) = fed.split_once(" ").unwrap_or((fed, ""));
-        let limit = limit.parse::<u32>().ok().expect(&rt, "a limit");
-        let told = told_of(&rt, rt.alloc(), limit, pieces);
-        assert!(&rt; told.as_bytes() == want.as_bytes(), "{row}: {told}");
+        assert_row(&rt, rt.alloc(), row);
     }
 }

@@ -1,6 +1,7 @@
 //! What the front of bytes that are there whole is.
 
 use crate::hex::bytes_of;
+use crate::told::{number_of, same};
 use hb_grpc::first_length;
 use std::alloc::Global;
 use std::process::Abort;
@@ -22,24 +23,26 @@ const ROWS: &str = "\
 4294967295 00ffffffff61; none";
 
 /// Tells what is in front.
-fn told_of(rt: &impl Abort, alloc: Global, limit: u32, bytes: &str) -> String {
-    let bytes = bytes_of(rt, alloc, bytes);
-    let mut told = String::new(alloc);
-    match first_length(bytes.as_slice(), limit) {
+fn tell(rt: &impl Abort, told: &mut String, bytes: &[u8], limit: u32) {
+    match first_length(bytes, limit) {
         Ok(Some(length)) => write!(told, "{length}").expect(rt, "memory"),
         Ok(None) => told.push_str("none").expect(rt, "memory"),
         Err(fault) => write!(told, "{fault:?}").expect(rt, "memory"),
     }
-    told
+}
+
+fn assert_row(rt: &impl Abort, alloc: Global, row: &str) {
+    let (given, want) = row.split_once("; ").unwrap_or((row, ""));
+    let (limit, digits) = given.split_once(" ").unwrap_or((given, ""));
+    let bytes = bytes_of(rt, alloc, digits);
+    let mut told = String::new(alloc);
+    tell(rt, &mut told, bytes.as_slice(), number_of(rt, limit));
+    same(rt, row, told.as_str(), want);
 }
 
 #[test]
 fn each_front_is_found(rt: HostRuntime) {
     for row in ROWS.lines() {
-        let (given, want) = row.split_once("; ").unwrap_or((row, ""));
-        let (limit, bytes) = given.split_once(" ").unwrap_or((given, ""));
-        let limit = limit.parse::<u32>().ok().expect(&rt, "a limit");
-        let told = told_of(&rt, rt.alloc(), limit, bytes);
-        assert!(&rt; told.as_bytes() == want.as_bytes(), "{row}: {told}");
+        assert_row(&rt, rt.alloc(), row);
     }
 }

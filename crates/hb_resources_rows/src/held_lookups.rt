@@ -1,10 +1,11 @@
 //! What look-ups find.
 
-use crate::held_responses::{held_after, kind_of, name_of, tell_text, word_of};
-use crate::told::put;
+use crate::held_responses::{apply_all, kind_of, name_of, tell_text, word_of};
+use crate::told::{nothing_held, put, same};
 use hb_base::{Ip, Text};
 use hb_held::{Found, Held, HeldRecord, HeldRow};
 use hb_records::{AddressRecord, Authorization};
+use std::alloc::Global;
 use std::process::Abort;
 
 /// Responses with bars between; and a question with its answer.
@@ -182,8 +183,8 @@ fn tell_endpoints(rt: &impl Abort, told: &mut String, held: &Held, namespace: &T
     }
 }
 
-fn tell_versions(rt: &(impl Abort + AllocGlobal), told: &mut String, held: &Held, kind: &str) {
-    let versions = held.versions(rt.alloc(), kind_of(kind));
+fn tell_versions(rt: &impl Abort, alloc: Global, told: &mut String, held: &Held, kind: &str) {
+    let versions = held.versions(alloc, kind_of(kind));
     for one in versions.expect(rt, "memory").as_slice() {
         put(rt, told, " ");
         tell_text(rt, told, &one.name);
@@ -231,7 +232,7 @@ fn ip_of(rt: &impl Abort, text: &str) -> Ip {
     hb_base::read_ip(text.as_bytes()).expect(rt, "an address")
 }
 
-fn tell_answer(rt: &(impl Abort + AllocGlobal), told: &mut String, held: &Held, question: &str) {
+fn tell_answer(rt: &impl Abort, alloc: Global, told: &mut String, held: &Held, question: &str) {
     let (what, words) = question.split_once(" ").unwrap_or((question, ""));
     match what {
         "workload" => tell_found(rt, told, held.workload_at(ip_of(rt, words))),
@@ -241,31 +242,51 @@ fn tell_answer(rt: &(impl Abort + AllocGlobal), told: &mut String, held: &Held, 
         "policies" => tell_policies(rt, told, held, ip_of(rt, words)),
         "endpoints" => {
             let (namespace, host) = words.split_once(" ").unwrap_or((words, ""));
-            tell_endpoints(rt, told, held, &name_of(rt, namespace), &name_of(rt, host));
+            tell_endpoints(
+                rt,
+                told,
+                held,
+                &name_of(rt, alloc, namespace),
+                &name_of(rt, alloc, host),
+            );
         }
-        "versions" => tell_versions(rt, told, held, words),
+        "versions" => tell_versions(rt, alloc, told, held, words),
         "nth" => tell_nth(rt, told, held, words),
         _ => write!(told, " {}", held.count()).expect(rt, "memory"),
     }
 }
 
-fn answered(rt: &(impl Abort + AllocGlobal), responses: &str, question: &str) -> String {
-    let mut unused = String::new(rt.alloc());
-    let held = held_after(rt, responses, &mut unused);
-    let mut told = String::new(rt.alloc());
-    tell_answer(rt, &mut told, &held, question);
+/// What is answered after responses; ` none` where nothing is told.
+fn answer(
+    rt: &impl Abort,
+    alloc: Global,
+    held: &mut Held,
+    responses: &str,
+    question: &str,
+) -> String {
+    let mut told = String::new(alloc);
+    apply_all(rt, alloc, held, responses, &mut told);
+    told.clear();
+    tell_answer(rt, alloc, &mut told, held, question);
     if told.is_empty() {
         put(rt, &mut told, " none");
     }
     told
 }
 
+fn assert_row(rt: &impl Abort, alloc: Global, row: &str) {
+    let (responses, asked) = row.split_once("=> ").unwrap_or((row, ""));
+    let (question, want) = asked.split_once(" =").unwrap_or((asked, ""));
+    let mut held = nothing_held(rt, alloc);
+    let told = answer(rt, alloc, &mut held, responses, question);
+    same(rt, row, told.as_str(), want);
+}
+
 #[test]
 fn look_ups_find_what_is_held(rt: HostRuntime) {
-    for row in ROWS.lines().filter(|row| !row.starts_with("#")) {
-        let (responses, asked) = row.split_once("=> ").unwrap_or((row, ""));
-        let (question, want) = asked.split_once(" =").unwrap_or((asked, ""));
-        let told = answered(&rt, responses, question);
-        assert!(&rt; told.as_bytes() == want.as_bytes(), "{row}:{told}");
+    for row in ROWS.lines() {
+        if !row.starts_with('#') {
+            assert_row(&rt, rt.alloc(), row);
+        }
     }
 }

@@ -1,8 +1,9 @@
 //! What responses tell and leave.
 
-use crate::held_responses::{held_after, tell_text, word_of};
-use crate::told::put;
+use crate::held_responses::{apply_all, tell_text, word_of};
+use crate::told::{nothing_held, put, same};
 use hb_held::Held;
+use std::alloc::Global;
 use std::process::Abort;
 
 /// Responses with bars between; and of each how many resources were applied and how many names removed, which changed, and
@@ -72,13 +73,20 @@ fn tell_held(rt: &impl Abort, told: &mut String, held: &Held) {
     }
 }
 
+fn assert_row(rt: &impl Abort, alloc: Global, row: &str) {
+    let (responses, want) = row.split_once(" => ").unwrap_or((row, ""));
+    let mut held = nothing_held(rt, alloc);
+    let mut told = String::new(alloc);
+    apply_all(rt, alloc, &mut held, responses, &mut told);
+    tell_held(rt, &mut told, &held);
+    same(rt, row, told.as_str(), want);
+}
+
 #[test]
 fn responses_tell_what_they_did(rt: HostRuntime) {
-    for row in ROWS.lines().filter(|row| !row.starts_with("#")) {
-        let (responses, want) = row.split_once(" => ").unwrap_or((row, ""));
-        let mut told = String::new(rt.alloc());
-        let held = held_after(&rt, responses, &mut told);
-        tell_held(&rt, &mut told, &held);
-        assert!(&rt; told.as_bytes() == want.as_bytes(), "{row}: {told}");
+    for row in ROWS.lines() {
+        if !row.starts_with('#') {
+            assert_row(&rt, rt.alloc(), row);
+        }
     }
 }

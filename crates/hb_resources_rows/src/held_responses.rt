@@ -4,7 +4,8 @@ use crate::held_records::bytes_of;
 use crate::told::{put, text_of};
 use hb_base::{Bytes, List, Text};
 use hb_disco::{Kind, Resource, Response};
-use hb_held::{Held, Outcome, OwnDoors};
+use hb_held::{Held, Outcome};
+use std::alloc::Global;
 use std::process::Abort;
 
 pub fn tell_text(rt: &impl Abort, told: &mut String, text: &Text) {
@@ -13,9 +14,9 @@ pub fn tell_text(rt: &impl Abort, told: &mut String, text: &Text) {
 }
 
 /// `-` is the empty text.
-pub fn name_of(rt: &(impl Abort + AllocGlobal), text: &str) -> Text {
+pub fn name_of(rt: &impl Abort, alloc: Global, text: &str) -> Text {
     let text = if text == "-" { "" } else { text };
-    text_of(rt, text.as_bytes())
+    text_of(rt, alloc, text.as_bytes())
 }
 
 pub fn kind_of(word: &str) -> Kind {
@@ -41,34 +42,34 @@ fn other(kind: Kind) -> Kind {
 }
 
 /// A resource, as `name@version:record`; `!` in front stands for the other kind's type.
-fn resource_of(rt: &(impl Abort + AllocGlobal), kind: Kind, word: &str) -> Resource {
+fn resource_of(rt: &impl Abort, alloc: Global, kind: Kind, word: &str) -> Resource {
     let (word, kind) = match word.strip_prefix("!") {
         Some(rest) => (rest, other(kind)),
         None => (word, kind),
     };
     let (names, record) = word.split_once(":").unwrap_or((word, ""));
     let (name, version) = names.split_once("@").unwrap_or((names, "1"));
-    let bytes = bytes_of(rt, record);
+    let bytes = bytes_of(rt, alloc, record);
     Resource {
-        name: name_of(rt, name),
-        version: name_of(rt, version),
-        type_url: text_of(rt, kind.type_url()),
+        name: name_of(rt, alloc, name),
+        version: name_of(rt, alloc, version),
+        type_url: text_of(rt, alloc, kind.type_url()),
         value: Bytes::from_vec(bytes),
     }
 }
 
 /// A response: its kind, `a` for addresses and `z` for policies; names that are removed, each behind `~`; and resources.
-pub fn response_of(rt: &(impl Abort + AllocGlobal), words: &str) -> Response {
+pub fn response_of(rt: &impl Abort, alloc: Global, words: &str) -> Response {
     let words = words.trim();
     let (first, rest) = words.split_once(" ").unwrap_or((words, ""));
     let kind = kind_of(first);
-    let mut resources = List::new(rt.alloc());
-    let mut removed = List::new(rt.alloc());
+    let mut resources = List::new(alloc);
+    let mut removed = List::new(alloc);
     for word in rest.split_whitespace() {
         match word.strip_prefix("~") {
-            Some(name) => removed.push(name_of(rt, name)).expect(rt, "memory"),
+            Some(name) => removed.push(name_of(rt, alloc, name)).expect(rt, "memory"),
             None => resources
-                .push(resource_of(rt, kind, word))
+                .push(resource_of(rt, alloc, kind, word))
                 .expect(rt, "memory"),
         }
     }
@@ -76,7 +77,7 @@ pub fn response_of(rt: &(impl Abort + AllocGlobal), words: &str) -> Response {
         kind,
         resources,
         removed,
-        nonce: Text::empty(rt.alloc()),
+        nonce: Text::empty(alloc),
     }
 }
 
@@ -96,21 +97,19 @@ pub fn tell_outcome(rt: &impl Abort, told: &mut String, outcome: &Outcome) {
     }
 }
 
-/// A node `n1` of the network `net`, after responses with bars between, and what each of them told.
-pub fn held_after(rt: &(impl Abort + AllocGlobal), responses: &str, told: &mut String) -> Held {
-    let mut held = Held::new(
-        rt.alloc(),
-        text_of(rt, b"net"),
-        text_of(rt, b"n1"),
-        OwnDoors::none(),
-    );
-    for words in responses.split('|') {
+/// Applies a response in words, and tells its outcome.
+pub fn apply(rt: &impl Abort, alloc: Global, held: &mut Held, words: &str, told: &mut String) {
+    let response = response_of(rt, alloc, words);
+    let outcome = held.apply(alloc, &response).expect(rt, "memory");
+    tell_outcome(rt, told, &outcome);
+}
+
+/// Applies responses with bars between, and tells of each its outcome.
+pub fn apply_all(rt: &impl Abort, alloc: Global, held: &mut Held, all: &str, told: &mut String) {
+    for words in all.split('|') {
         if !words.trim().is_empty() {
-            let response = response_of(rt, words);
-            let outcome = held.apply(rt.alloc(), &response).expect(rt, "memory");
-            tell_outcome(rt, told, &outcome);
+            apply(rt, alloc, held, words, told);
             put(rt, told, "; ");
         }
     }
-    held
 }

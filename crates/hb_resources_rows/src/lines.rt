@@ -2,11 +2,13 @@
 
 use crate::hex::push_digits;
 use crate::lines_told::TOLD;
+use crate::told::same;
 use hb_base::{List, Text};
 use hb_disco::{Kind, read_response};
 use hb_held::{Held, Outcome, OwnDoors, Refusal, RefusedWhy};
 use hb_lines::{outcome_line, row_line};
 use hb_records::RecordFault;
+use std::alloc::Global;
 use std::process::Abort;
 
 /// A line as the rows have it.
@@ -19,77 +21,114 @@ fn tell(rt: &impl Abort, told: &mut String, line: &[u8]) {
     }
 }
 
-fn apply(rt: &(impl Abort + AllocGlobal), held: &mut Held, told: &mut String, bytes: &[u8]) {
-    let response = read_response(rt.alloc(), bytes)
-        .ok()
-        .expect(rt, "a response");
-    let outcome = held.apply(rt.alloc(), &response).expect(rt, "memory");
-    let line = outcome_line(rt.alloc(), response.kind, &response.nonce, &outcome);
-    tell(rt, told, line.expect(rt, "memory").as_slice());
+/// What was read of a block: octets of a response that isn't applied yet, and lines that are wanted; what is held, and was told.
+#[derive(Drop)]
+struct Block {
+    held: Held,
+    bytes: Vec<u8>,
+    told: String,
+    want: String,
 }
 
-fn tell_held(rt: &(impl Abort + AllocGlobal), held: &Held, told: &mut String) {
-    for row in held.rows() {
-        let line = row_line(rt.alloc(), &row).expect(rt, "memory");
-        tell(rt, told, line.as_slice());
+impl Block {
+    fn new(alloc: Global) -> Block {
+        let (network, node) = (Text::empty(alloc), Text::empty(alloc));
+        Block {
+            held: Held::new(alloc, network, node, OwnDoors::none()),
+            bytes: Vec::new(alloc),
+            told: String::new(alloc),
+            want: String::new(alloc),
+        }
     }
-}
 
-fn assert_block(rt: &(impl Abort + AllocGlobal), block: &str) {
-    let mut held = Held::new(
-        rt.alloc(),
-        Text::empty(rt.alloc()),
-        Text::empty(rt.alloc()),
-        OwnDoors::none(),
-    );
-    let mut bytes = Vec::new(rt.alloc());
-    let mut told = String::new(rt.alloc());
-    let mut want = String::new(rt.alloc());
-    for line in block.lines() {
+    /// Applies the response that was read.
+    fn apply(&mut self, rt: &impl Abort, alloc: Global) {
+        let response = read_response(alloc, self.bytes.as_slice())
+            .ok()
+            .expect(rt, "a response");
+        let outcome = self.held.apply(alloc, &response).expect(rt, "memory");
+        let line = outcome_line(alloc, response.kind, &response.nonce, &outcome);
+        tell(rt, &mut self.told, line.expect(rt, "memory").as_slice());
+        self.bytes.clear();
+    }
+
+    fn line(&mut self, rt: &impl Abort, alloc: Global, line: &str) {
         match line.strip_prefix('<') {
-            Some(digits) => push_digits(rt, &mut bytes, digits),
+            Some(digits) => push_digits(rt, &mut self.bytes, digits),
             None => {
-                if !bytes.is_empty() {
-                    apply(rt, &mut held, &mut told, bytes.as_slice());
-                    bytes.clear();
+                if !self.bytes.is_empty() {
+                    self.apply(rt, alloc);
                 }
                 let text = line.strip_prefix('>').expect(rt, "a line");
-                want.push_str(text).expect(rt, "memory");
+                self.want.push_str(text).expect(rt, "memory");
             }
         }
     }
-    tell_held(rt, &held, &mut told);
-    assert!(rt; told.as_bytes() == want.as_bytes(), "{block}\n{told}");
+
+    fn lines(&mut self, rt: &impl Abort, alloc: Global, lines: &str) {
+        for line in lines.lines() {
+            self.line(rt, alloc, line);
+        }
+    }
+
+    /// Tells what is held.
+    fn tell_held(&mut self, rt: &impl Abort, alloc: Global) {
+        for row in self.held.rows() {
+            let line = row_line(alloc, &row).expect(rt, "memory");
+            tell(rt, &mut self.told, line.as_slice());
+        }
+    }
+}
+
+fn assert_block(rt: &impl Abort, alloc: Global, lines: &str) {
+    let mut block = Block::new(alloc);
+    block.lines(rt, alloc, lines);
+    block.tell_held(rt, alloc);
+    same(rt, lines, block.told.as_str(), block.want.as_str());
+}
+
+fn assert_blocks(rt: &impl Abort, alloc: Global, blocks: &[u8]) {
+    for block in std::str::from_utf8(blocks)
+        .unwrap_or("no text")
+        .split("\n\n")
+    {
+        assert_block(rt, alloc, block);
+    }
 }
 
 #[test]
 fn lines_tell_what_responses_did_and_what_is_held(rt: HostRuntime) {
-    for block in TOLD.split("\n\n") {
-        assert_block(&rt, block);
+    assert_blocks(&rt, rt.alloc(), TOLD);
+}
+
+/// An outcome with one refusal.
+fn refused(rt: &impl Abort, alloc: Global, why: RefusedWhy) -> Outcome {
+    let mut refused = List::new(alloc);
+    let name = Text::empty(alloc);
+    refused.push(Refusal { name, why }).expect(rt, "memory");
+    Outcome {
+        refused,
+        changed: List::new(alloc),
+        applied: u64::MAX,
+        removed: 1,
     }
 }
 
-fn assert_why(rt: &(impl Abort + AllocGlobal), why: RefusedWhy, want: &str) {
-    let mut refused = List::new(rt.alloc());
-    let name = Text::empty(rt.alloc());
-    refused.push(Refusal { name, why }).expect(rt, "memory");
-    let outcome = Outcome {
-        refused,
-        changed: List::new(rt.alloc()),
-        applied: u64::MAX,
-        removed: 1,
-    };
-    let nonce = Text::empty(rt.alloc());
-    let line = outcome_line(rt.alloc(), Kind::Authorization, &nonce, &outcome);
-    let mut told = String::new(rt.alloc());
-    tell(rt, &mut told, line.expect(rt, "memory").as_slice());
-    let front =
-        "{\"applied\":18446744073709551615,\"kind\":\"authorization\",\"nonce\":\"\",\"refused\":[{\"name\":\"\",\"why\":\"";
-    let want = format!(in rt.alloc(); "{front}{want}\"}}],\"removed\":1}}<0a>").expect(
-        rt, "memory",
-    );
-    assert!(rt; told.as_bytes() == want.as_bytes(), "{told}");
+fn assert_why(rt: &impl Abort, alloc: Global, why: RefusedWhy, want: &str) {
+    let outcome = refused(rt, alloc, why);
+    let line = outcome_line(alloc, Kind::Authorization, &Text::empty(alloc), &outcome);
+    let line = line.expect(rt, "memory");
+    let text = std::str::from_utf8(line.as_slice()).unwrap_or("no text");
+    let text = text.strip_prefix(FRONT).unwrap_or("another front");
+    let told = text.strip_suffix(BACK).unwrap_or("another back");
+    same(rt, want, told, want);
 }
+
+/// What stands before the reason, and behind it.
+const FRONT: &str =
+    "{\"applied\":18446744073709551615,\"kind\":\"authorization\",\"nonce\":\"\",\"refused\":[{\"name\":\"\",\"why\":\"";
+
+const BACK: &str = "\"}],\"removed\":1}\n";
 
 /// Reasons that take many resources or entries, and the greatest numbers.
 #[test]
@@ -111,6 +150,6 @@ fn reasons_are_told(rt: HostRuntime) {
             "no kind in field 4294967295",
         ),
     ] {
-        assert_why(&rt, why, want);
+        assert_why(&rt, rt.alloc(), why, want);
     }
 }

@@ -1,9 +1,10 @@
 //! The bytes of requests.
 
-use crate::disco_words::{bytes_of, text_named};
+use crate::disco_words::{push_words, text_in};
 use crate::written::WRITTEN;
 use hb_base::{List, NoMemory, Text};
 use hb_disco::{Kind, NameVersion, put_answer, put_first};
+use std::alloc::Global;
 use std::process::Abort;
 
 /// Requests as in `WRITTEN`, their bytes worked by hand (Protocol Buffers encoding guide): of a map's entry an empty name isn't
@@ -31,13 +32,13 @@ fn kind_of(rt: &impl Abort, word: &str) -> Kind {
 }
 
 /// Names and versions with `=` between.
-fn versions_of(rt: &(impl Abort + AllocGlobal), words: &str) -> List<NameVersion> {
-    let mut versions = List::new(rt.alloc());
+fn versions_of(rt: &impl Abort, alloc: Global, words: &str) -> List<NameVersion> {
+    let mut versions = List::new(alloc);
     for word in words.split_whitespace() {
         let (name, version) = word.split_once("=").expect(rt, "a version");
         let entry = NameVersion {
-            name: text_named(rt, name),
-            version: text_named(rt, version),
+            name: text_in(rt, alloc, name),
+            version: text_in(rt, alloc, version),
         };
         versions.push(entry).expect(rt, "memory");
     }
@@ -45,7 +46,8 @@ fn versions_of(rt: &(impl Abort + AllocGlobal), words: &str) -> List<NameVersion
 }
 
 fn put_request(
-    rt: &(impl Abort + AllocGlobal),
+    rt: &impl Abort,
+    alloc: Global,
     call: &str,
     kind: Kind,
     text: &Text,
@@ -53,45 +55,39 @@ fn put_request(
     out: &mut Vec<u8>,
 ) -> Result<(), NoMemory> {
     match (call, rest) {
-        ("first", _) => put_first(rt.alloc(), text, kind, &versions_of(rt, rest), out),
-        (_, "") => put_answer(rt.alloc(), kind, text, None, out),
-        _ => put_answer(rt.alloc(), kind, text, Some(&text_named(rt, rest)), out),
+        ("first", _) => put_first(alloc, text, kind, &versions_of(rt, alloc, rest), out),
+        (_, "") => put_answer(alloc, kind, text, None, out),
+        _ => put_answer(alloc, kind, text, Some(&text_in(rt, alloc, rest)), out),
     }
 }
 
-/// The bytes of a request in words, behind a byte that stands there before.
-fn written(rt: &(impl Abort + AllocGlobal), request: &str) -> Vec<u8> {
+/// Appends the bytes of a request in words.
+fn push_request(rt: &impl Abort, alloc: Global, request: &str, out: &mut Vec<u8>) {
     let (call, rest) = request.split_once(" ").expect(rt, "a kind");
     let (kind, rest) = rest.split_once(" ").expect(rt, "a text");
     let (text, rest) = rest.split_once(" ").unwrap_or((rest, ""));
-    let mut out = bytes_of(rt, "ff");
-    put_request(
-        rt,
-        call,
-        kind_of(rt, kind),
-        &text_named(rt, text),
-        rest,
-        &mut out,
-    )
-    .expect(rt, "memory");
-    out
+    let text = text_in(rt, alloc, text);
+    put_request(rt, alloc, call, kind_of(rt, kind), &text, rest, out).expect(rt, "memory");
 }
 
-fn assert_rows(rt: &(impl Abort + AllocGlobal), table: &[u8]) {
+/// A request has its bytes, behind a byte that stands there before.
+fn assert_row(rt: &impl Abort, alloc: Global, row: &str) {
+    let (request, bytes) = row.split_once("; ").unwrap_or((row, ""));
+    let mut want = vec![in alloc; 255].expect(rt, "memory");
+    push_words(rt, &mut want, bytes);
+    let mut out = vec![in alloc; 255].expect(rt, "memory");
+    push_request(rt, alloc, request, &mut out);
+    assert!(rt; out.as_slice() == want.as_slice(), "{row}: {out:?}");
+}
+
+fn assert_rows(rt: &impl Abort, alloc: Global, table: &[u8]) {
     for row in std::str::from_utf8(table).unwrap_or("no text").lines() {
-        let (request, want) = row.split_once("; ").unwrap_or((row, ""));
-        let out = written(rt, request);
-        let want = bytes_of(rt, want);
-        let holds = match out.as_slice().split_first() {
-            Some((before, bytes)) => *before == 255 && bytes == want.as_slice(),
-            None => false,
-        };
-        assert!(rt; holds, "{row}: {out:?}");
+        assert_row(rt, alloc, row);
     }
 }
 
 #[test]
 fn requests_have_their_bytes(rt: HostRuntime) {
-    assert_rows(&rt, BY_HAND);
-    assert_rows(&rt, WRITTEN);
+    assert_rows(&rt, rt.alloc(), BY_HAND);
+    assert_rows(&rt, rt.alloc(), WRITTEN);
 }

@@ -1,9 +1,10 @@
 //! What responses are read as.
 
-use crate::disco_words::{bytes_named, bytes_of, put_text};
-use crate::told::put;
+use crate::disco_words::{push_words, put_text, text_named};
+use crate::told::{put, same};
 use hb_base::{Or, Text};
 use hb_disco::{Kind, Resource, Response, ResponseFault, read_response};
+use std::alloc::Global;
 use std::process::Abort;
 
 /// Responses, and what each is read as: its kind and nonce, of each resource the name, the version, the type URL and the value,
@@ -62,10 +63,10 @@ const ROWS: &str = "\
 220161 12030a01ff; utf8 1";
 
 /// A text, or a name for it; `-` where it is empty.
-fn put_part(rt: &(impl Abort + AllocGlobal), told: &mut String, text: &Text) {
+fn put_part(rt: &impl Abort, told: &mut String, text: &Text) {
     put(rt, told, " ");
     for name in ["-", "UA", "UZ"] {
-        if text.as_slice() == bytes_named(rt, name).as_slice() {
+        if text.as_slice() == text_named(name).as_bytes() {
             return put(rt, told, name);
         }
     }
@@ -79,7 +80,7 @@ fn put_value(rt: &impl Abort, told: &mut String, value: &[u8]) {
     }
 }
 
-fn tell_resource(rt: &(impl Abort + AllocGlobal), told: &mut String, resource: &Resource) {
+fn tell_resource(rt: &impl Abort, told: &mut String, resource: &Resource) {
     put(rt, told, " +");
     put_part(rt, told, &resource.name);
     put_part(rt, told, &resource.version);
@@ -87,7 +88,7 @@ fn tell_resource(rt: &(impl Abort + AllocGlobal), told: &mut String, resource: &
     put_value(rt, told, resource.value.as_slice());
 }
 
-fn tell_response(rt: &(impl Abort + AllocGlobal), told: &mut String, response: &Response) {
+fn tell_response(rt: &impl Abort, told: &mut String, response: &Response) {
     match response.kind {
         Kind::Address => put(rt, told, "address"),
         Kind::Authorization => put(rt, told, "authorization"),
@@ -110,22 +111,29 @@ fn tell_fault(rt: &impl Abort, told: &mut String, fault: ResponseFault) {
     }
 }
 
-fn told_of(rt: &(impl Abort + AllocGlobal), bytes: &[u8]) -> String {
-    let mut told = String::new(rt.alloc());
-    match read_response(rt.alloc(), bytes) {
-        Ok(response) => tell_response(rt, &mut told, &response),
-        Err(Or::Fault(fault)) => tell_fault(rt, &mut told, fault),
-        Err(Or::NoMemory) => put(rt, &mut told, "no memory"),
+/// What the bytes are read as.
+fn tell(rt: &impl Abort, alloc: Global, told: &mut String, bytes: &[u8]) {
+    match read_response(alloc, bytes) {
+        Ok(response) => tell_response(rt, told, &response),
+        Err(Or::Fault(fault)) => tell_fault(rt, told, fault),
+        Err(Or::NoMemory) => put(rt, told, "no memory"),
     }
-    told
+}
+
+fn assert_row(rt: &impl Abort, alloc: Global, row: &str) {
+    let (words, want) = row.split_once("; ").unwrap_or((row, ""));
+    let mut bytes = Vec::new(alloc);
+    push_words(rt, &mut bytes, words);
+    let mut told = String::new(alloc);
+    tell(rt, alloc, &mut told, bytes.as_slice());
+    same(rt, row, told.as_str(), want);
 }
 
 #[test]
 fn responses_are_read(rt: HostRuntime) {
-    for row in ROWS.lines().filter(|row| !row.starts_with("#")) {
-        let (words, want) = row.split_once("; ").unwrap_or((row, ""));
-        let bytes = bytes_of(&rt, words);
-        let told = told_of(&rt, bytes.as_slice());
-        assert!(&rt; told.as_bytes() == want.as_bytes(), "{row}: {told}");
+    for row in ROWS.lines() {
+        if !row.starts_with('#') {
+            assert_row(&rt, rt.alloc(), row);
+        }
     }
 }

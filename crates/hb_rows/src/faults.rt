@@ -1,7 +1,6 @@
 //! Reads and writes that fail.
 
-use crate::runs::{Failing, NOTHING_FAILS, told, told_of};
-use crate::scripts::script_of;
+use crate::runs::{Failing, NOTHING_FAILS, told_of};
 use std::alloc::Global;
 use std::process::Abort;
 use std::str::Split;
@@ -125,6 +124,10 @@ show x; WORKLOAD; 1; 1; 0; 0; 1024; 2 "" "hbone: words: unexpected word 'x' (see
 --version; WORKLOAD; 1; 1; 64; 0; 64; 7 "" "hbone: write fault\n"
 --version; WORKLOAD; 1; 0; 11; 0; 64; 7 "hbone 0.1.0" "hbone: write fault\n"
 show --help; WORKLOAD; 1; 2; 5; 1; 0; 7 "Tells" ""
+# A part of a made script is printed, or of the total line of its run.
+make 1; ; 0; 0; 0; 0; 64; 7 "" "hbone: write fault\n"
+make 1; ; 0; 0; 10; 0; 64; 7 "{\"open\":1}" "hbone: write fault\n"
+make 1 --run; ; 0; 0; 8; 0; 64; 7 "total: 3" "hbone: write fault\n"
 # All of them fail.
 CHECK; WORKLOAD; 1; 1; 0; 1; 0; 6 "" ""
 CHECK; WORKLOAD; 0; 1; 0; 1; 0; 7 "" """#;
@@ -263,63 +266,4 @@ fn a_read_fails_in_mid_stream(rt: HostRuntime) {
         ended.as_str() == r#"6 "" "hbone: read fault\n""#,
         "{ended}"
     );
-}
-
-/// A replay of the base, some of whose calls fail.
-fn told_of_base(rt: &impl Abort, alloc: Global, failing: Failing) -> String {
-    let script = script_of(rt, alloc, "BASE");
-    told_of(rt, alloc, "replay USUAL", script.as_slice(), failing)
-}
-
-#[test]
-fn a_script_that_fails_is_told(rt: HostRuntime) {
-    let failing = Failing {
-        take: 1,
-        ..NOTHING_FAILS
-    };
-    let ended = told_of_base(&rt, rt.alloc(), failing);
-    assert!(&rt;
-        ended.as_str() == r#"6 "" "hbone: read fault\n""#,
-        "{ended}"
-    );
-}
-
-#[test]
-fn a_report_that_fails_is_told(rt: HostRuntime) {
-    let failing = Failing {
-        put: 1,
-        ..NOTHING_FAILS
-    };
-    let ended = told_of_base(&rt, rt.alloc(), failing);
-    assert!(&rt;
-        ended.as_str() == r#"7 "" "hbone: write fault\n""#,
-        "{ended}"
-    );
-}
-
-/// The report of the base.
-const REPORT: &[u8] = b"link 1 discovery 10.0.0.1:15010: received 344, sent 450, closed stopped\n\
-total: 1 links, 0 accepted, 0 revoked, 0 up, 0 down\n";
-
-/// The output has room for so many octets of the report.
-fn assert_first(rt: &impl Abort, alloc: Global, room: usize) {
-    let failing = Failing {
-        room,
-        ..NOTHING_FAILS
-    };
-    let ended = told_of_base(rt, alloc, failing);
-    let first = &REPORT[..room.min(REPORT.len())];
-    let want = if room < REPORT.len() {
-        told(rt, alloc, 7, first, b"hbone: write fault\n")
-    } else {
-        told(rt, alloc, 0, first, b"")
-    };
-    assert!(rt; ended.as_str() == want.as_str(), "{room}: {ended}");
-}
-
-#[test]
-fn an_output_without_room_has_the_first_of_the_report(rt: HostRuntime) {
-    for room in 0..200 {
-        assert_first(&rt, rt.alloc(), room);
-    }
 }

@@ -1,10 +1,8 @@
 //! One run over memory, compared whole. A test ends where memory is wanting.
 
-use crate::scripts::{USUAL, script_of};
-use hb_audit::{Audit, Audits, MemAudit};
+use hb_audit::{Audits, MemAudit};
 use hb_base::{MemSink, MemSource};
 use hb_cli::run;
-use hb_script::read_script;
 use hb_turns::Keep;
 use hb_world::ScriptWorld;
 use std::alloc::Global;
@@ -30,13 +28,7 @@ pub const NOTHING_FAILS: Failing = Failing {
     err_room: 1024,
 };
 
-/// The input can't be read.
-pub const UNREADABLE: Failing = Failing {
-    take: 1,
-    ..NOTHING_FAILS
-};
-
-pub fn text_of(bytes: &[u8]) -> &str {
+fn text_of(bytes: &[u8]) -> &str {
     std::str::from_utf8(bytes).unwrap_or("no text")
 }
 
@@ -45,8 +37,6 @@ fn words_named(name: &str) -> &str {
     match name {
         "CHECK" => "check --node n1 10.0.0.9 spiffe://cluster.local/ns/a/sa/c 10.0.0.7:8080",
         "OPEN" => "check --node n1 10.0.0.9 none 10.0.0.7:8080",
-        "USUAL" => USUAL,
-        "DOOR" => "--inbound 0.0.0.0:15008",
         word => word,
     }
 }
@@ -64,21 +54,19 @@ fn words_of(rt: &impl Abort, alloc: Global, text: &str) -> Vec<String> {
 }
 
 /// A status, and the output and the error text, each as a Rust literal.
-pub fn told(rt: &impl Abort, alloc: Global, status: u8, out: &[u8], err: &[u8]) -> String {
+fn told(rt: &impl Abort, alloc: Global, status: u8, out: &[u8], err: &[u8]) -> String {
     let out = text_of(out);
     let err = text_of(err);
     format!(in alloc; "{status} {out:?} {err:?}").expect(rt, "memory")
 }
 
-/// A run over an input and a world, some of whose calls fail: its status, and all that it wrote.
-fn told_over<A: Audit>(
+/// A run over an input, some of whose calls fail: its status, and all that it wrote.
+pub fn told_of(
     rt: &impl Abort,
     alloc: Global,
     words: &str,
     input: &[u8],
-    mut world: ScriptWorld,
     failing: Failing,
-    audits: &mut Audits<A>,
 ) -> String {
     let words = words_of(rt, alloc, words);
     let mut source = MemSource::over(alloc, input, &[failing.take]).expect(rt, "memory");
@@ -91,52 +79,9 @@ fn told_over<A: Audit>(
         &mut out,
         &mut err,
         &mut Keep::all(alloc),
-        audits,
-        &mut world,
+        &mut Audits::<MemAudit>::none(alloc),
+        &mut ScriptWorld::new(alloc),
         &mut ScriptWorld::new(alloc),
     );
     told(rt, alloc, status, out.as_slice(), err.as_slice())
-}
-
-/// A run over an input, some of whose calls fail, with audits.
-pub fn told_with<A: Audit>(
-    rt: &impl Abort,
-    alloc: Global,
-    words: &str,
-    input: &[u8],
-    failing: Failing,
-    audits: &mut Audits<A>,
-) -> String {
-    let world = ScriptWorld::new(alloc);
-    told_over(rt, alloc, words, input, world, failing, audits)
-}
-
-/// The same, without audits.
-pub fn told_of(
-    rt: &impl Abort,
-    alloc: Global,
-    words: &str,
-    input: &[u8],
-    failing: Failing,
-) -> String {
-    let mut audits = Audits::<MemAudit>::none(alloc);
-    told_with(rt, alloc, words, input, failing, &mut audits)
-}
-
-/// A run of `serve` over the world of a script, which stands for the real sockets, with audits. The input can't be read.
-pub fn served_with<A: Audit>(
-    rt: &impl Abort,
-    alloc: Global,
-    words: &str,
-    script: &str,
-    failing: Failing,
-    audits: &mut Audits<A>,
-) -> String {
-    let text = script_of(rt, alloc, script);
-    let lines = read_script(alloc, text.as_slice())
-        .ok()
-        .expect(rt, "a script");
-    let world = ScriptWorld::over(alloc, lines).expect(rt, "memory");
-    let words = format!(in alloc; "serve {words}").expect(rt, "memory");
-    told_over(rt, alloc, words.as_str(), b"", world, failing, audits)
 }

@@ -3,6 +3,7 @@
 use hb_base::{Bytes, Ip, List, read_ip};
 use hb_hpack::{Header, HeaderList};
 use hb_verdict::{Request, read_request};
+use std::alloc::Global;
 use std::process::Abort;
 
 /// The destination of the link, the size of the headers as their block tells it, the headers and what is told of them.
@@ -83,20 +84,21 @@ const ROWS: &str = "\
 10.0.0.7 16384  -> malformed
 10.0.0.7 18446744073709551615 :method=GET -> 431";
 
-fn header_of(rt: &(impl Abort + AllocGlobal), name: &str, value: &str) -> Header {
+fn header_of(rt: &impl Abort, alloc: Global, name: &str, value: &str) -> Header {
     Header {
-        name: Bytes::of(rt.alloc(), name.as_bytes()).expect(rt, "memory"),
-        value: Bytes::of(rt.alloc(), value.as_bytes()).expect(rt, "memory"),
+        name: Bytes::of(alloc, name.as_bytes()).expect(rt, "memory"),
+        value: Bytes::of(alloc, value.as_bytes()).expect(rt, "memory"),
     }
 }
 
 /// The size and the headers of a row.
-fn list_of(rt: &(impl Abort + AllocGlobal), words: &str) -> HeaderList {
+fn list_of(rt: &impl Abort, alloc: Global, words: &str) -> HeaderList {
     let (size, texts) = words.split_once(" ").expect(rt, "headers");
-    let mut kept = List::new(rt.alloc());
+    let mut kept = List::new(alloc);
     for text in texts.split("; ") {
         if let Some((name, value)) = text.split_once("=") {
-            kept.push(header_of(rt, name, value)).expect(rt, "memory");
+            let header = header_of(rt, alloc, name, value);
+            kept.push(header).expect(rt, "memory");
         }
     }
     HeaderList {
@@ -105,27 +107,27 @@ fn list_of(rt: &(impl Abort + AllocGlobal), words: &str) -> HeaderList {
     }
 }
 
-fn told(rt: &(impl Abort + AllocGlobal), list: &HeaderList, destination: Ip) -> String {
-    let told = match read_request(list, destination) {
-        Request::Refused(status) => format!(in rt.alloc(); "{status}"),
-        Request::Malformed => format!(in rt.alloc(); "malformed"),
-        Request::Connect(target) => format!(in rt.alloc(); "port {}", target.port),
-    };
-    told.expect(rt, "memory")
+fn tell(rt: &impl Abort, told: &mut String, list: &HeaderList, destination: Ip) {
+    match read_request(list, destination) {
+        Request::Refused(status) => write!(told, "{status}").expect(rt, "memory"),
+        Request::Malformed => told.push_str("malformed").expect(rt, "memory"),
+        Request::Connect(target) => write!(told, "port {}", target.port).expect(rt, "memory"),
+    }
 }
 
-fn assert_row(rt: &(impl Abort + AllocGlobal), row: &str) {
+fn assert_row(rt: &impl Abort, alloc: Global, row: &str) {
     let (question, want) = row.split_once(" -> ").expect(rt, "an answer");
     let (destination, words) = question.split_once(" ").expect(rt, "a size");
     let destination = read_ip(destination.as_bytes()).expect(rt, "an address");
-    let list = list_of(rt, words);
-    let told = told(rt, &list, destination);
+    let list = list_of(rt, alloc, words);
+    let mut told = String::new(alloc);
+    tell(rt, &mut told, &list, destination);
     assert!(rt; told.as_str() == want, "{row}: {told}");
 }
 
 #[test]
 fn requests_ask_for_what_their_headers_say(rt: HostRuntime) {
     for row in ROWS.split('\n') {
-        assert_row(&rt, row);
+        assert_row(&rt, rt.alloc(), row);
     }
 }

@@ -4,6 +4,7 @@ use crate::words::{bytes_of, text_of};
 use hb_base::Text;
 use hb_disco::{Response, read_response};
 use hb_held::{Held, OwnDoors};
+use std::alloc::Global;
 use std::process::Abort;
 
 /// Responses by their names, each with the octets of its message. `U1` is the workload `u1`: `web` of namespace `a`, at 10.0.0.7 on node
@@ -42,30 +43,30 @@ fn digits_of(name: &str) -> &'static str {
     ""
 }
 
-fn response_of(rt: &(impl Abort + AllocGlobal), name: &str) -> Response {
-    let octets = bytes_of(rt, rt.alloc(), digits_of(name));
-    let response = read_response(rt.alloc(), octets.as_slice());
+fn response_of(rt: &impl Abort, alloc: Global, name: &str) -> Response {
+    let octets = bytes_of(rt, alloc, digits_of(name));
+    let response = read_response(alloc, octets.as_slice());
     response.ok().expect(rt, "a response")
 }
 
 /// A node `n1` that holds nothing, with these doors.
-pub fn held_behind(rt: &(impl Abort + AllocGlobal), doors: OwnDoors) -> Held {
-    let node = text_of(rt, rt.alloc(), b"n1");
-    Held::new(rt.alloc(), Text::empty(rt.alloc()), node, doors)
+pub fn held_behind(rt: &impl Abort, alloc: Global, doors: OwnDoors) -> Held {
+    let node = text_of(rt, alloc, b"n1");
+    Held::new(alloc, Text::empty(alloc), node, doors)
 }
 
-fn apply(rt: &(impl Abort + AllocGlobal), held: &mut Held, name: &str) {
-    let response = response_of(rt, name);
-    let outcome = held.apply(rt.alloc(), &response).expect(rt, "memory");
+fn apply(rt: &impl Abort, alloc: Global, held: &mut Held, name: &str) {
+    let response = response_of(rt, alloc, name);
+    let outcome = held.apply(alloc, &response).expect(rt, "memory");
     assert!(rt; outcome.refused.len() == 0, "refused: {name}");
 }
 
 /// Applies responses with commas between.
-pub fn apply_all(rt: &(impl Abort + AllocGlobal), held: &mut Held, names: &str) {
+pub fn apply_all(rt: &impl Abort, alloc: Global, held: &mut Held, names: &str) {
     for name in names.split(',') {
         let name = name.trim();
         if !name.is_empty() {
-            apply(rt, held, name);
+            apply(rt, alloc, held, name);
         }
     }
 }

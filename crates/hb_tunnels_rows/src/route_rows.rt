@@ -1,7 +1,7 @@
 //! Records and ways of connections, printed by bench/tables/route_rows.py, where an evaluator in Python tells each way.
 
 /// Names of records, and their octets in digits.
-pub const RECORDS: &str = "\
+pub const RECORDS: &[u8] = b"\
 w0 0a111a040a00000922036e657428014a026e31\n\
 s1 121e1201611a057765622e61220b0a036e657412040a0100012a05085010903f\n\
 w2 0a261a040a00000722036e657428014a026e32b201120a07612f7765622e6112 070a05085010903f\n\
@@ -457,7 +457,7 @@ w447 0a371a040a00000422036e65742801420f120d0a056f7468657212040a010002 4a026e3288
 ";
 
 /// Resources; connections that open, or end; a source, a destination with its port, and the port of gateways; the way.
-pub const WAYS: &str = "\
+pub const WAYS: &[u8] = b"\
 # a service of two endpoints: fewer open first, and then the smaller name\n\
 w9=w0 web=s1 u1=w2 u2=w3; u1; 10.0.0.9 10.1.0.1 80 15008; gateway 10.0.0.8:15008 10.0.0.8:8080 u2\n\
 w9=w0 web=s1 u1=w2 u2=w3; ; 10.0.0.9 10.1.0.1 80 15008; gateway 10.0.0.7:15008 10.0.0.7:8080 u1\n\
@@ -496,14 +496,15 @@ w9=w0 web=s1 z=w2 a=w3; ; 10.0.0.9 10.1.0.1 80 15008; gateway 10.0.0.8:15008 10.
 w9=w0 web=s1 z=w2 a=w3; z; 10.0.0.9 10.1.0.1 80 15008; gateway 10.0.0.8:15008 10.0.0.8:8080 a\n\
 w9=w0 web=s1 z=w2 a=w3; z a; 10.0.0.9 10.1.0.1 80 15008; gateway 10.0.0.8:15008 10.0.0.8:8080 a\n\
 w9=w0 web=s1 z=w2 a=w3; a a z; 10.0.0.9 10.1.0.1 80 15008; gateway 10.0.0.7:15008 10.0.0.7:8080 z\n\
-w9=w0 web=s1 u=w2 ü=w3; ; 10.0.0.9 10.1.0.1 80 15008; gateway 10.0.0.7:15008 10.0.0.7:8080 u\n\
-w9=w0 web=s1 u=w2 ü=w3; u; 10.0.0.9 10.1.0.1 80 15008; gateway 10.0.0.8:15008 10.0.0.8:8080 ü\n\
-w9=w0 web=s1 u=w2 ü=w3; u ü; 10.0.0.9 10.1.0.1 80 15008; gateway 10.0.0.7:15008 10.0.0.7:8080 u\n\
-w9=w0 web=s1 u=w2 ü=w3; ü ü u; 10.0.0.9 10.1.0.1 80 15008; gateway 10.0.0.7:15008 10.0.0.7:8080 u\n\
-w9=w0 web=s1 ü=w2 ý=w3; ; 10.0.0.9 10.1.0.1 80 15008; gateway 10.0.0.7:15008 10.0.0.7:8080 ü\n\
-w9=w0 web=s1 ü=w2 ý=w3; ü; 10.0.0.9 10.1.0.1 80 15008; gateway 10.0.0.8:15008 10.0.0.8:8080 ý\n\
-w9=w0 web=s1 ü=w2 ý=w3; ü ý; 10.0.0.9 10.1.0.1 80 15008; gateway 10.0.0.7:15008 10.0.0.7:8080 ü\n\
-w9=w0 web=s1 ü=w2 ý=w3; ý ý ü; 10.0.0.9 10.1.0.1 80 15008; gateway 10.0.0.7:15008 10.0.0.7:8080 ü\n\
+w9=w0 web=s1 u=w2 \xc3\xbc=w3; ; 10.0.0.9 10.1.0.1 80 15008; gateway 10.0.0.7:15008 10.0.0.7:8080 u\n\
+w9=w0 web=s1 u=w2 \xc3\xbc=w3; u; 10.0.0.9 10.1.0.1 80 15008; gateway 10.0.0.8:15008 10.0.0.8:8080 \xc3\xbc\n\
+w9=w0 web=s1 u=w2 \xc3\xbc=w3; u \xc3\xbc; 10.0.0.9 10.1.0.1 80 15008; gateway 10.0.0.7:15008 10.0.0.7:8080 u\n\
+w9=w0 web=s1 u=w2 \xc3\xbc=w3; \xc3\xbc \xc3\xbc u; 10.0.0.9 10.1.0.1 80 15008; gateway 10.0.0.7:15008 10.0.0.7:8080 u\n\
+w9=w0 web=s1 \xc3\xbc=w2 \xc3\xbd=w3; ; 10.0.0.9 10.1.0.1 80 15008; gateway 10.0.0.7:15008 10.0.0.7:8080 \xc3\xbc\n\
+w9=w0 web=s1 \xc3\xbc=w2 \xc3\xbd=w3; \xc3\xbc; 10.0.0.9 10.1.0.1 80 15008; gateway 10.0.0.8:15008 10.0.0.8:8080 \xc3\xbd\n\
+w9=w0 web=s1 \xc3\xbc=w2 \xc3\xbd=w3; \xc3\xbc \xc3\xbd; 10.0.0.9 10.1.0.1 80 15008; gateway 10.0.0.7:15008 10.0.0.7:8080 \xc3\xbc\n\
+w9=w0 web=s1 \xc3\xbc=w2 \xc3\xbd=w3; \xc3\xbd \xc3\xbd \xc3\xbc; 10.0.0.9 10.1.0.1 80 15008; gateway 10.0.0.7:15008 \
+    10.0.0.7:8080 \xc3\xbc\n\
 w9=w0 web=s1 u10=w2 u2=w3; ; 10.0.0.9 10.1.0.1 80 15008; gateway 10.0.0.7:15008 10.0.0.7:8080 u10\n\
 w9=w0 web=s1 u10=w2 u2=w3; u10; 10.0.0.9 10.1.0.1 80 15008; gateway 10.0.0.8:15008 10.0.0.8:8080 u2\n\
 w9=w0 web=s1 u10=w2 u2=w3; u10 u2; 10.0.0.9 10.1.0.1 80 15008; gateway 10.0.0.7:15008 10.0.0.7:8080 u10\n\

@@ -1,83 +1,82 @@
 //! The way of a connection by resources held and connections that are open. A test ends where memory is wanting or a word is none.
 
 use crate::route_rows::{RECORDS, WAYS};
-use crate::words::{bytes_of, text_of};
+use crate::words::{push_words, text_in, text_of};
 use hb_base::{Bytes, Ip, List, Target, put_target, read_ip};
 use hb_disco::{Kind, Resource, Response};
 use hb_held::{Held, OwnDoors};
 use hb_route::{Opens, Route, route};
+use std::alloc::Global;
 use std::process::Abort;
 
 /// The octets of the record of this name.
-fn octets_of(rt: &(impl Abort + AllocGlobal), name: &str) -> Bytes {
-    let mut octets = Vec::new(rt.alloc());
-    for line in RECORDS.lines() {
+fn octets_of(rt: &impl Abort, alloc: Global, name: &str) -> Bytes {
+    let mut octets = Vec::new(alloc);
+    for line in text_in(RECORDS).lines() {
         let (first, words) = line.split_once(" ").unwrap_or((line, ""));
         if first == name {
-            let more = bytes_of(rt, rt.alloc(), words);
-            octets
-                .extend_from_slice(more.as_slice())
-                .expect(rt, "memory");
+            push_words(rt, &mut octets, words);
         }
     }
-    Bytes::of(rt.alloc(), octets.as_slice()).expect(rt, "memory")
+    Bytes::from_vec(octets)
 }
 
 /// A resource, as `name=record`.
-fn resource_of(rt: &(impl Abort + AllocGlobal), word: &str) -> Resource {
+fn resource_of(rt: &impl Abort, alloc: Global, word: &str) -> Resource {
     let (name, record) = word.split_once("=").expect(rt, "a record");
     Resource {
-        name: text_of(rt, rt.alloc(), name.as_bytes()),
-        version: text_of(rt, rt.alloc(), b"1"),
-        type_url: text_of(rt, rt.alloc(), Kind::Address.type_url()),
-        value: octets_of(rt, record),
+        name: text_of(rt, alloc, name.as_bytes()),
+        version: text_of(rt, alloc, b"1"),
+        type_url: text_of(rt, alloc, Kind::Address.type_url()),
+        value: octets_of(rt, alloc, record),
     }
 }
 
-/// What a node `n1` of the network `net` holds after one response with these resources.
-fn held_of(rt: &(impl Abort + AllocGlobal), words: &str) -> Held {
-    let mut resources = List::new(rt.alloc());
+/// A response with these resources.
+fn response_of(rt: &impl Abort, alloc: Global, words: &str) -> Response {
+    let mut resources = List::new(alloc);
     for word in words.split_whitespace() {
-        resources.push(resource_of(rt, word)).expect(rt, "memory");
+        let resource = resource_of(rt, alloc, word);
+        resources.push(resource).expect(rt, "memory");
     }
-    let response = Response {
+    Response {
         kind: Kind::Address,
         resources,
-        removed: List::new(rt.alloc()),
-        nonce: text_of(rt, rt.alloc(), b"x"),
-    };
-    let mut held = Held::new(
-        rt.alloc(),
-        text_of(rt, rt.alloc(), b"net"),
-        text_of(rt, rt.alloc(), b"n1"),
-        OwnDoors::none(),
-    );
-    let outcome = held.apply(rt.alloc(), &response).expect(rt, "memory");
-    assert!(rt; outcome.refused.len() == 0, "refused: {words}");
-    held
-}
-
-/// The connections that are open once one of each name opened, and one of each name behind a tilde ended.
-fn opens_of(rt: &(impl Abort + AllocGlobal), words: &str) -> Opens {
-    let mut opens = Opens::new(rt.alloc());
-    for word in words.split_whitespace() {
-        let ended = word.strip_prefix("~");
-        let name = text_of(rt, rt.alloc(), ended.unwrap_or(word).as_bytes());
-        let open = opens.of(&name);
-        if ended.is_some() {
-            assert!(rt; open > 0, "ends: {word}");
-            opens.drop_one(&name);
-        } else {
-            assert!(rt; open < 4096, "opens: {word}");
-            opens.add(&name).expect(rt, "memory");
-        }
+        removed: List::new(alloc),
+        nonce: text_of(rt, alloc, b"x"),
     }
-    opens
 }
 
-fn push_target(rt: &(impl Abort + AllocGlobal), told: &mut Vec<u8>, word: &[u8], target: Target) {
+/// Applies a response with these resources.
+fn apply(rt: &impl Abort, alloc: Global, held: &mut Held, words: &str) {
+    let response = response_of(rt, alloc, words);
+    let outcome = held.apply(alloc, &response).expect(rt, "memory");
+    assert!(rt; outcome.refused.len() == 0, "refused: {words}");
+}
+
+/// A connection opens to this name, or one behind a tilde ends.
+fn open(rt: &impl Abort, alloc: Global, opens: &mut Opens, word: &str) {
+    let ended = word.strip_prefix("~");
+    let name = text_of(rt, alloc, ended.unwrap_or(word).as_bytes());
+    let open = opens.of(&name);
+    if ended.is_some() {
+        assert!(rt; open > 0, "ends: {word}");
+        opens.drop_one(&name);
+    } else {
+        assert!(rt; open < 4096, "opens: {word}");
+        opens.add(&name).expect(rt, "memory");
+    }
+}
+
+fn open_all(rt: &impl Abort, alloc: Global, opens: &mut Opens, words: &str) {
+    for word in words.split_whitespace() {
+        open(rt, alloc, opens, word);
+    }
+}
+
+fn push_target(rt: &impl Abort, alloc: Global, told: &mut Vec<u8>, word: &[u8], target: Target) {
     told.extend_from_slice(word).expect(rt, "memory");
-    put_target(rt.alloc(), target, told).expect(rt, "memory");
+    put_target(alloc, target, told).expect(rt, "memory");
 }
 
 fn push_name(rt: &impl Abort, told: &mut Vec<u8>, name: &[u8]) {
@@ -85,31 +84,29 @@ fn push_name(rt: &impl Abort, told: &mut Vec<u8>, name: &[u8]) {
     told.extend_from_slice(name).expect(rt, "memory");
 }
 
-fn told_of(rt: &(impl Abort + AllocGlobal), route: &Route<'_>) -> Vec<u8> {
-    let mut told = Vec::new(rt.alloc());
+fn tell(rt: &impl Abort, alloc: Global, told: &mut Vec<u8>, route: &Route<'_>) {
     match route {
         Route::Gateway {
             address,
             authority,
             endpoint,
         } => {
-            push_target(rt, &mut told, b"gateway ", *address);
-            push_target(rt, &mut told, b" ", *authority);
-            push_name(rt, &mut told, endpoint.as_slice());
+            push_target(rt, alloc, told, b"gateway ", *address);
+            push_target(rt, alloc, told, b" ", *authority);
+            push_name(rt, told, endpoint.as_slice());
         }
         Route::Direct { address, endpoint } => {
-            push_target(rt, &mut told, b"direct ", *address);
+            push_target(rt, alloc, told, b"direct ", *address);
             match endpoint {
-                Some(name) => push_name(rt, &mut told, name.as_slice()),
-                None => push_name(rt, &mut told, b"-"),
+                Some(name) => push_name(rt, told, name.as_slice()),
+                None => push_name(rt, told, b"-"),
             }
         }
         Route::Refused(why) => {
-            let text = format!(in rt.alloc(); "none {}", why.number()).expect(rt, "memory");
+            let text = format!(in alloc; "none {}", why.number()).expect(rt, "memory");
             told.extend_from_slice(text.as_bytes()).expect(rt, "memory");
         }
     }
-    told
 }
 
 fn ip_of(rt: &impl Abort, word: Option<&str>) -> Ip {
@@ -122,28 +119,47 @@ fn port_of(rt: &impl Abort, word: Option<&str>) -> u16 {
     port.expect(rt, "a port")
 }
 
-/// The way of the connection that these words tell: its source, its destination and the port there, and the port of gateways.
-fn way_of(rt: &(impl Abort + AllocGlobal), held: &Held, opens: &Opens, ends: &str) -> Vec<u8> {
+/// Tells the way of the connection that these words tell: its source, its destination and the port there, and the port of gateways.
+fn tell_way(
+    rt: &impl Abort,
+    alloc: Global,
+    told: &mut Vec<u8>,
+    held: &Held,
+    opens: &Opens,
+    ends: &str,
+) {
     let mut words = ends.split_whitespace();
     let source = ip_of(rt, words.next());
     let ip = ip_of(rt, words.next());
     let port = port_of(rt, words.next());
     let hbone_port = port_of(rt, words.next());
     let route = route(held, opens, source, Target { ip, port }, hbone_port);
-    told_of(rt, &route)
+    tell(rt, alloc, told, &route);
+}
+
+/// The way of a row is taken where nothing was held and nothing open before.
+fn assert_way(rt: &impl Abort, alloc: Global, held: &mut Held, opens: &mut Opens, row: &str) {
+    let mut parts = row.split("; ");
+    apply(rt, alloc, held, parts.next().unwrap_or(""));
+    open_all(rt, alloc, opens, parts.next().unwrap_or(""));
+    let mut way = Vec::new(alloc);
+    tell_way(rt, alloc, &mut way, held, opens, parts.next().unwrap_or(""));
+    let told = text_in(way.as_slice());
+    assert!(rt; told == parts.next().unwrap_or(""), "{row}: {told}");
+}
+
+fn assert_row(rt: &impl Abort, alloc: Global, row: &str) {
+    let (network, node) = (text_of(rt, alloc, b"net"), text_of(rt, alloc, b"n1"));
+    let mut held = Held::new(alloc, network, node, OwnDoors::none());
+    let mut opens = Opens::new(alloc);
+    assert_way(rt, alloc, &mut held, &mut opens, row);
 }
 
 #[test]
 fn connections_take_their_ways(rt: HostRuntime) {
-    for row in WAYS.lines() {
+    for row in text_in(WAYS).lines() {
         if !row.starts_with('#') {
-            let mut parts = row.split("; ");
-            let held = held_of(&rt, parts.next().unwrap_or(""));
-            let opens = opens_of(&rt, parts.next().unwrap_or(""));
-            let way = way_of(&rt, &held, &opens, parts.next().unwrap_or(""));
-            let want = parts.next().unwrap_or("").as_bytes();
-            let told = std::str::from_utf8(way.as_slice()).unwrap_or("?");
-            assert!(rt; way.as_slice() == want, "{row}: {told}");
+            assert_row(&rt, rt.alloc(), row);
         }
     }
 }

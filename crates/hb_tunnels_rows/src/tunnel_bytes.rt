@@ -61,49 +61,43 @@ fn take_down(rt: &impl Abort, tunnel: &mut Tunnel, most: usize, place: usize) ->
     count
 }
 
-#[test]
-fn bytes_go_up_in_order_round_the_ring(rt: HostRuntime) {
-    let mut tunnel = Tunnel::new(rt.alloc()).ok().expect(&rt, "memory");
+fn pass_up(rt: &impl Abort, alloc: Global, tunnel: &mut Tunnel) {
     let mut came: usize = 0;
     let mut taken: usize = 0;
     for _ in 0..40 {
-        let bytes = piece(&rt, rt.alloc(), came, tunnel.room_up().min(20_000));
+        let bytes = piece(rt, alloc, came, tunnel.room_up().min(20_000));
         came = came.saturating_add(bytes.len());
-        push_up(&rt, &mut tunnel, &bytes);
-        taken = taken.saturating_add(take_up(&rt, &mut tunnel, 16_384, taken));
+        push_up(rt, tunnel, &bytes);
+        taken = taken.saturating_add(take_up(rt, tunnel, 16_384, taken));
     }
     for _ in 0..10 {
-        taken = taken.saturating_add(take_up(&rt, &mut tunnel, 65_535, taken));
+        taken = taken.saturating_add(take_up(rt, tunnel, 65_535, taken));
     }
     assert!(rt; came > 400_000 && taken == came && tunnel.room_up() == 65_535);
 }
 
-#[test]
-fn bytes_go_down_in_order_round_the_ring(rt: HostRuntime) {
-    let mut tunnel = Tunnel::new(rt.alloc()).ok().expect(&rt, "memory");
+fn pass_down(rt: &impl Abort, alloc: Global, tunnel: &mut Tunnel) {
     let mut came: usize = 0;
     let mut taken: usize = 0;
     for _ in 0..40 {
-        let bytes = piece(&rt, rt.alloc(), came, tunnel.room_down().min(9_000));
+        let bytes = piece(rt, alloc, came, tunnel.room_down().min(9_000));
         came = came.saturating_add(bytes.len());
-        push_down(&rt, &mut tunnel, &bytes);
-        taken = taken.saturating_add(take_down(&rt, &mut tunnel, 7_000, taken));
+        push_down(rt, tunnel, &bytes);
+        taken = taken.saturating_add(take_down(rt, tunnel, 7_000, taken));
     }
     for _ in 0..10 {
-        taken = taken.saturating_add(take_down(&rt, &mut tunnel, 16_384, taken));
+        taken = taken.saturating_add(take_down(rt, tunnel, 16_384, taken));
     }
     assert!(rt; came > 150_000 && taken == came && tunnel.room_down() == 16_384);
 }
 
-#[test]
-fn bytes_go_down_in_one_piece_round_the_ring(rt: HostRuntime) {
-    let mut tunnel = Tunnel::new(rt.alloc()).ok().expect(&rt, "memory");
+fn pass_down_in_one_piece(rt: &impl Abort, alloc: Global, tunnel: &mut Tunnel) {
     let mut came: usize = 0;
     let mut taken: usize = 0;
     for _ in 0..20 {
-        let bytes = piece(&rt, rt.alloc(), came, tunnel.room_down().min(9_000));
+        let bytes = piece(rt, alloc, came, tunnel.room_down().min(9_000));
         came = came.saturating_add(bytes.len());
-        push_down(&rt, &mut tunnel, &bytes);
+        push_down(rt, tunnel, &bytes);
         let held = tunnel.held_down();
         assert!(rt; is_from(held, taken) && taken.saturating_add(held.len()) == came);
         let count = held.len().min(7_000);
@@ -115,4 +109,22 @@ fn bytes_go_down_in_one_piece_round_the_ring(rt: HostRuntime) {
     let rest = tunnel.held_down().len();
     tunnel.took_down(rest);
     assert!(rt; tunnel.down_done());
+}
+
+#[test]
+fn bytes_go_up_in_order_round_the_ring(rt: HostRuntime) {
+    let mut tunnel = Tunnel::new(rt.alloc()).ok().expect(&rt, "memory");
+    pass_up(&rt, rt.alloc(), &mut tunnel);
+}
+
+#[test]
+fn bytes_go_down_in_order_round_the_ring(rt: HostRuntime) {
+    let mut tunnel = Tunnel::new(rt.alloc()).ok().expect(&rt, "memory");
+    pass_down(&rt, rt.alloc(), &mut tunnel);
+}
+
+#[test]
+fn bytes_go_down_in_one_piece_round_the_ring(rt: HostRuntime) {
+    let mut tunnel = Tunnel::new(rt.alloc()).ok().expect(&rt, "memory");
+    pass_down_in_one_piece(&rt, rt.alloc(), &mut tunnel);
 }

@@ -5,6 +5,7 @@ use hb_base::{Ip, Peer, Target, read_identity, read_target};
 use hb_held::{Held, OwnDoors};
 use hb_table::{Judged, judge};
 use hb_verdict::{Request, Verdict, verdict_on};
+use std::alloc::Global;
 use std::process::Abort;
 
 /// Responses, a target, whether a place is left, where the node's own door for tunnels listens, and the answer to a peer of the identity
@@ -40,10 +41,10 @@ U1, DENY ELSEWHERE | 10.0.0.8:8080 left 0.0.0.0:8080 404
 U1 | 10.0.0.7:8080 left 0.0.0.0:8080 503";
 
 /// A peer at 10.0.0.9, with this identity or none.
-fn peer_of(rt: &(impl Abort + AllocGlobal), identity: &str) -> Peer {
+fn peer_of(rt: &impl Abort, alloc: Global, identity: &str) -> Peer {
     Peer {
         ip: Ip::V4(0x0a00_0009),
-        identity: read_identity(rt.alloc(), identity.as_bytes()).expect(rt, "memory"),
+        identity: read_identity(alloc, identity.as_bytes()).expect(rt, "memory"),
     }
 }
 
@@ -92,16 +93,17 @@ fn told_by(rt: &impl Abort, held: &Held, asked: &str, peer: &Peer, target: &str)
 
 /// The same by what a node of these doors holds after responses.
 pub fn told(
-    rt: &(impl Abort + AllocGlobal),
+    rt: &impl Abort,
+    alloc: Global,
     doors: OwnDoors,
     responses: &str,
     asked: &str,
     identity: &str,
     target: &str,
 ) -> &'static str {
-    let peer = peer_of(rt, identity);
-    let mut held = held_behind(rt, doors);
-    apply_all(rt, &mut held, responses);
+    let peer = peer_of(rt, alloc, identity);
+    let mut held = held_behind(rt, alloc, doors);
+    apply_all(rt, alloc, &mut held, responses);
     told_by(rt, &held, asked, &peer, target)
 }
 
@@ -127,13 +129,13 @@ fn doors_of(rt: &impl Abort, door: &str) -> [OwnDoors; 3] {
 
 const IDENTITY: &str = "spiffe://cluster.local/ns/a/sa/c";
 
-fn assert_row(rt: &(impl Abort + AllocGlobal), row: &str) {
+fn assert_row(rt: &impl Abort, alloc: Global, row: &str) {
     let (responses, words) = row.split_once("| ").expect(rt, "responses");
     let (target, words) = words.split_once(" ").expect(rt, "a target");
     let (place, words) = words.split_once(" ").expect(rt, "a place");
     let (door, want) = words.split_once(" ").expect(rt, "a door");
     for doors in doors_of(rt, door) {
-        let told = told(rt, doors, responses, place, IDENTITY, target);
+        let told = told(rt, alloc, doors, responses, place, IDENTITY, target);
         assert!(rt; told == want, "{row}: {told}");
     }
 }
@@ -141,13 +143,13 @@ fn assert_row(rt: &(impl Abort + AllocGlobal), row: &str) {
 #[test]
 fn tunnels_are_dialled_for_or_refused(rt: HostRuntime) {
     for row in ROWS.split('\n') {
-        assert_row(&rt, row);
+        assert_row(&rt, rt.alloc(), row);
     }
 }
 
 #[test]
 fn refused_requests_are_answered_whatever_is_held(rt: HostRuntime) {
     let none = OwnDoors::none();
-    assert!(rt; told(&rt, none, "", "refused", "none", "") == "405");
-    assert!(rt; told(&rt, none, "", "malformed", "none", "") == "reset");
+    assert!(&rt; told(&rt, rt.alloc(), none, "", "refused", "none", "") == "405");
+    assert!(&rt; told(&rt, rt.alloc(), none, "", "malformed", "none", "") == "reset");
 }

@@ -15,16 +15,21 @@ fn push_word(rt: &impl Abort, bytes: &mut Vec<u8>, digits: &str) {
     }
 }
 
-/// The bytes that words with blanks between stand for, two digits a byte; behind a star stands how often a word does.
-pub fn bytes_of(rt: &impl Abort, alloc: Global, words: &str) -> Vec<u8> {
-    let mut bytes = Vec::new(alloc);
+/// Appends the bytes that words with blanks between stand for, two digits a byte; behind a star stands how often a word does.
+pub fn push_words(rt: &impl Abort, bytes: &mut Vec<u8>, words: &str) {
     for word in words.split_whitespace() {
         let (digits, count) = word.split_once('*').unwrap_or((word, "1"));
         let count = count.parse::<usize>().ok().expect(rt, "a number");
         for _ in 0..count {
-            push_word(rt, &mut bytes, digits);
+            push_word(rt, bytes, digits);
         }
     }
+}
+
+/// The bytes that words stand for.
+pub fn bytes_of(rt: &impl Abort, alloc: Global, words: &str) -> Vec<u8> {
+    let mut bytes = Vec::new(alloc);
+    push_words(rt, &mut bytes, words);
     bytes
 }
 
@@ -32,4 +37,9 @@ pub fn bytes_of(rt: &impl Abort, alloc: Global, words: &str) -> Vec<u8> {
 pub fn text_of(rt: &impl Abort, alloc: Global, bytes: &[u8]) -> Text {
     let text = Text::of(alloc, bytes).expect(rt, "memory");
     text.expect(rt, "UTF-8")
+}
+
+/// The text of a table.
+pub fn text_in(table: &[u8]) -> &str {
+    std::str::from_utf8(table).unwrap_or("no text")
 }

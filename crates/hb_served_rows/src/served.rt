@@ -1,7 +1,6 @@
 //! Runs of `hbone serve` over the world of a script. The input isn't read: its first take fails.
 
-use crate::runs::{Failing, UNREADABLE, served_with};
-use hb_audit::{Audits, MemAudit};
+use crate::runs::{Failing, UNREADABLE, served};
 use std::alloc::Global;
 use std::process::Abort;
 
@@ -32,8 +31,7 @@ fn assert_served(
     failing: Failing,
     want: &str,
 ) {
-    let mut audits = Audits::<MemAudit>::none(alloc);
-    let told = served_with(rt, alloc, words, script, failing, &mut audits);
+    let told = served(rt, alloc, words, script, failing);
     assert!(rt; told.as_str() == want, "{words}: {told}, not {want}");
 }
 
