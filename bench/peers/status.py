@@ -2,11 +2,12 @@
 
 import contextlib
 import http.client
+import json
 import socket
 import time
 
 from case import answer_of, case, says
-from peers import HERE, OTHER, Fault, Proxy, echo, free_port, mesh, until, wanted
+from peers import AUTHORIZATION, CALLER, HERE, OTHER, Fault, Proxy, echo, free_port, mesh, until, wanted, workload
 
 # A connection to it lasts this long at most, in seconds, and so many are served at a time
 LONGEST, MOST = 5, 16
@@ -33,8 +34,48 @@ def metrics(port):
 
 
 def counted(port):
-    """What isn't 0, but for the loop's own numbers."""
-    return {name: value for name, value in metrics(port).items() if value and not name.startswith(("hbone_looks", "hbone_quiet", "hbone_synced"))}
+    """What isn't 0, but for the loop's own numbers, links, and what is held."""
+    apart = ("hbone_looks", "hbone_quiet", "hbone_synced", "hbone_links", "hbone_held", "hbone_updates", "hbone_refused")
+    return {name: value for name, value in metrics(port).items() if value and not name.startswith(apart)}
+
+
+def kinds(port, name):
+    """The samples of a metric that aren't 0, by kind."""
+    head = f'hbone_{name}{{kind="'
+    return {it.removeprefix(head).removesuffix('"}'): value for it, value in metrics(port).items() if it.startswith(head) and value}
+
+
+def state(port, **wants):
+    """The state, once these of its members are so; each line of it is one of its links, but for the first and the last."""
+
+    def told():
+        code, kind, text = asked(port, "/state")
+        if code == 503:
+            wanted("what lacks", (kind, text), ("text/plain", "the state is there at the next tick\n"))
+            return None
+        wanted("the answer", (code, kind), (200, "application/json"))
+        it = json.loads(text)
+        wanted("its lines", [json.loads(line.removesuffix(",")) for line in text.splitlines()[1:-1] if line], it["links"])
+        return it if all(it[name] == value for name, value in wants.items()) else None
+
+    until(f"the state has {wants}", lambda: told(), 12)
+    return told()
+
+
+def links(port, *wants):
+    """The links of the state, without numbers of links and octets that aren't a tunnel's, once they are these."""
+
+    def bare(it):
+        out = {name: value for name, value in it.items() if name not in ("link", "read", "wrote")}
+        if "tunnels" in out:
+            out["tunnels"] = [{name: value for name, value in tunnel.items() if name != "link"} for tunnel in out["tunnels"]]
+        return out
+
+    def told():
+        it = state(port)
+        return [bare(link) for link in it["links"]] if it else []
+
+    until(f"the links are {wants}", lambda: told() == list(wants), 12)
 
 
 def raw(room, port, data=b""):
@@ -86,10 +127,74 @@ def the_state_of_a_run(room):
 
 
 @case
+def the_links_of_a_run(room):
+    """`/state` has a line for each link, with its peer and its tunnels, their targets and their bytes both ways, as of the last seconds;
+    and `/metrics` the links by kind."""
+    port = told(room)
+    plane = {"kind": "control", "to": f"{HERE}:{room.discovery}"}
+    links(port, plane)
+    wanted("links at first", kinds(port, "links"), {"control": 1})
+    peer, up = room.peer(), room.upstream(echo)
+    unknown = {"kind": "inbound", "peer": None, "identity": None, "tunnels": []}
+    links(port, plane, unknown)
+    stream, second = peer.tunnel(up.port), peer.tunnel(up.port)
+    says(peer, stream, b"hello")
+    tunnel = {"target": f"{HERE}:{up.port}", "open": True}
+    tunnels = [{"stream": stream, **tunnel, "up": 5, "down": 5}, {"stream": second, **tunnel, "up": 0, "down": 0}]
+    known = {"kind": "inbound", "peer": HERE, "identity": CALLER, "tunnels": tunnels}
+    own = {"kind": "upstream", "to": f"{HERE}:{up.port}"}
+    links(port, plane, known, own, own)
+    wanted("links", kinds(port, "links"), {"control": 1, "inbound": 1, "upstream": 2})
+    peer.send(stream, b"", end=True)
+    peer.pump(lambda: stream in peer.ended, "END_STREAM")
+    links(port, plane, {**known, "tunnels": tunnels[1:]}, own)
+    peer.close()
+    links(port, plane)
+
+
+@case
+def what_is_held_is_told(room):
+    """`/state` and `/metrics` have how many workloads, services and policies are held, how many responses were applied, and how many of
+    their resources refused, each of which has its line in the log."""
+    port = told(room)
+    held = {"workloads": 1, "services": 0, "policies": 1}
+    state(port, synced=True, held=held, refused={"address": 0, "authorization": 0})
+    updates = kinds(port, "updates_total")
+    bad = mesh(OTHER, workloads=[workload("10.0.0.44", "more", policies=[])])
+    bad[AUTHORIZATION]["a/callers"] = b"\x18\x07"
+    room.update(bad)
+    state(port, held={**held, "workloads": 2}, refused={"address": 0, "authorization": 1})
+    wanted("held", kinds(port, "held"), {"workloads": 2, "policies": 1})
+    wanted("refused", kinds(port, "refused_total"), {"authorization": 1})
+    more = {kind: value - updates[kind] for kind, value in kinds(port, "updates_total").items()}
+    wanted("updates", more, {"address": 1, "authorization": 1})
+    lines = [line for line in room.proxy.told() if line.startswith("refused ")]
+    wanted("the log", lines, ['refused kind=authorization name=a/callers why="bad enum 7 in field 3"'])
+    wanted("/state answers a GET alone", asked(port, "/state", method="POST")[0], 405)
+
+
+@case
+def lines_that_are_left_out(room):
+    """`--quiet` leaves out the lines of answers, of their reasons and of ends, and `--notes-only` all others; both are counted on."""
+    room.control()
+    for word, heads in (("--quiet", {"listens", "control", "closed"}), ("--notes-only", {"verdict", "why", "end"})):
+        port = free_port()
+        room.serve("--status", f"{HERE}:{port}", word)
+        until("it is ready", lambda: asked(port)[0] == 200)
+        peer, other, up = room.peer(), room.peer(identity=OTHER), room.upstream(echo)
+        says(peer, peer.tunnel(up.port), b"hello")
+        wanted("the answer to another", answer_of(other, other.connect(f"{HERE}:{up.port}"))[0], 401)
+        peer.close()
+        until("an end", lambda: sum(value for name, value in metrics(port).items() if name.startswith("hbone_ends_total")) == 1)
+        wanted(f"lines of {word}", {line.split(" ")[0] for line in room.proxy.told()}, heads)
+        room.proxy.end()
+
+
+@case
 def other_questions(room):
     """404 for another path, 405 for another method, 400 for what is no request, 431 and 413 beyond 4,096 bytes of a head or a body."""
     port = told(room)
-    for path in ("/", "/state", "/ready/", "//ready", "/metrics2"):
+    for path in ("/", "/states", "/ready/", "//ready", "/metrics2"):
         wanted(f"the answer to {path}", asked(port, path)[0], 404)
     for method in ("POST", "HEAD", "PUT", "DELETE", "OPTIONS"):
         wanted(f"the answer to {method}", asked(port, method=method)[0], 405)

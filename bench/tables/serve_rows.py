@@ -84,6 +84,8 @@ TABLE = [
     ("FREED", "A response that takes the policy a/p away: each peer is admitted.", modelled_rows.policies(removed=["a/p"])),
     ("DENIED", "A response with a policy that denies each peer.", modelled_rows.DENY),
     ("CHANGE_TAKEN", "The program's answer to either.", data(1, model.answer(model.POLICY, "x9", None))),
+    ("UNREADABLE", "A response with the policy a/bad, whose scope is none.", modelled_rows.policies(("a/bad", number(3, 7)))),
+    ("REJECTED", "The program's answer to it, which tells the name.", data(1, model.answer(model.POLICY, "x9", "a/bad"))),
     ("STRAIGHT", "A response in which the workload u1 doesn't take HBONE any more.", here(modelled_rows.BACK)),
     ("NAMED", "A response in which the workload u1 has an account.", here(NAMED)),
     ("WAY_TAKEN", "The program's answer to either.", data(1, model.answer(model.ADDRESS, "x9", None))),

@@ -2,6 +2,8 @@
 
 use crate::reason::Reason;
 use hb_base::Note;
+use hb_disco::Kind;
+use hb_held::{Held, Outcome};
 
 /// What an audit answers to a note.
 #[derive(Clone, Copy, Debug)]
@@ -39,8 +41,11 @@ pub trait Audit: Drop {
         ensures later { faults self.old ≤ faults self.new }
         ensures counts { Counts (faults self.old) (faults self.new) (has_failed result) };
 
-    /// Time passed, and whether workloads and policies were told by then. No contract speaks of it: it is for whoever shows how a run fares.
-    fn ticked(&self, _synced: bool) {}
+    /// Time passed, and this is held. No contract speaks of it: it is for whoever shows how a run fares.
+    fn ticked(&self, _held: &Held) {}
+
+    /// A response of this kind was applied, and did this. No contract speaks of it either.
+    fn applied(&self, _kind: Kind, _did: &Outcome) {}
 
     /// Whether it tells its notes and the one at this place, counted from 0, is `n`.
     fn holds(&self, place: usize, n: &Note) -> bool

@@ -10,6 +10,8 @@ ghost use Rattle.hb_audit.specs.Told.{told_of};
 use crate::audit::{Audit, Noted};
 use crate::reason::Reason;
 use hb_base::Note;
+use hb_disco::Kind;
+use hb_held::{Held, Outcome};
 use std::alloc::Global;
 
 /// Audits to which each note is told, in order: boxes, as `Audits<Box<dyn Audit>>`, or audits of one type.
@@ -60,10 +62,17 @@ impl<A: Audit> Audits<A> {
         }
     }
 
-    /// Tells each audit that time passed, and whether workloads and policies were told by then.
-    pub fn ticked(&self, synced: bool) {
+    /// Tells each audit that time passed, and what is held.
+    pub fn ticked(&self, held: &Held) {
         for audit in self.audits.as_slice() {
-            audit.ticked(synced);
+            audit.ticked(held);
+        }
+    }
+
+    /// Tells each audit that a response of this kind was applied, and what it did.
+    pub fn applied(&self, kind: Kind, did: &Outcome) {
+        for audit in self.audits.as_slice() {
+            audit.applied(kind, did);
         }
     }
 

@@ -3,6 +3,8 @@
 use crate::audit::{Audit, Noted};
 use crate::reason::Reason;
 use hb_base::Note;
+use hb_disco::Kind;
+use hb_held::{Held, Outcome};
 
 /// What the audit inside does.
 impl Audit for Box<dyn Audit> {
@@ -18,8 +20,12 @@ impl Audit for Box<dyn Audit> {
         (**self).note(n, reason)
     }
 
-    fn ticked(&self, synced: bool) {
-        (**self).ticked(synced);
+    fn ticked(&self, held: &Held) {
+        (**self).ticked(held);
+    }
+
+    fn applied(&self, kind: Kind, did: &Outcome) {
+        (**self).applied(kind, did);
     }
 
     fn holds(&self, place: usize, n: &Note) -> bool {

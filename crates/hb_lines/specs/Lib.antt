@@ -8,3 +8,4 @@ pub mod AddressFields
 pub mod Fields
 pub mod Explained
 pub mod Way
+pub mod Refused

@@ -1,5 +1,5 @@
 //! The lines that tell what a response did, what is held, what a policy says of a connection, and which way a connection takes: in JSON
-//! (RFC 8259), but for ways.
+//! (RFC 8259), but for ways and for resources that were refused.
 #![tactic(auto)]
 
 mod address_fields;
@@ -7,6 +7,7 @@ mod explained;
 mod fields;
 mod object;
 mod outcome;
+mod refused;
 mod row;
 mod rule_fields;
 mod value;
@@ -16,5 +17,6 @@ mod why;
 pub use explained::explained_line;
 pub use fields::fields_line;
 pub use outcome::outcome_line;
+pub use refused::refused_line;
 pub use row::row_line;
 pub use way::way_line;

@@ -12,7 +12,7 @@ use hb_held::{Outcome, Refusal};
 use serde_json::{Value, json};
 use std::alloc::Global;
 
-fn kind_word(kind: Kind) -> &'static str
+pub(crate) fn kind_word(kind: Kind) -> &'static str
     ensures { result.now ≡ kind_word kind }
 {
     match kind {

@@ -129,7 +129,7 @@ impl Inbox {
         }
     }
 
-    /// Applies a message, if it is a response, shows what is held then, and answers it.
+    /// Applies a message, if it is a response, answers it, and shows what is held then.
     fn take_message<J: Judge>(
         &mut self,
         alloc: Global,
@@ -143,8 +143,8 @@ impl Inbox {
         match read_response(alloc, message) {
             Ok(response) => {
                 let outcome = held.apply(alloc, &response)?;
-                judge.applied(held);
                 add_answer(alloc, &response, &outcome, &mut self.waiting)?;
+                judge.applied(held, response.kind, outcome);
                 Ok(true)
             }
             Err(Or::Fault(_)) => Ok(false),

@@ -1,6 +1,7 @@
 //! Who is shown what is held.
 
-use hb_held::Held;
+use hb_disco::Kind;
+use hb_held::{Held, Outcome};
 
 /// Who is shown what is held behind each response that is applied, before the next one is.
 pub trait Judge {
@@ -9,8 +10,9 @@ pub trait Judge {
     /// What being shown the resources held makes of it.
     ghost judges: { Self → Resources → Self → Type 0 };
 
-    /// A response was applied, and this is held now.
-    fn applied(&mut self, held: &Held)
+    /// A response of this kind was applied, and this is held now. No clause speaks of what the response did: that is for whoever shows how
+    /// a run fares.
+    fn applied(&mut self, held: &Held, kind: Kind, did: Outcome)
         ensures { judges self.old held.now self.new };
 }
 
@@ -23,5 +25,5 @@ impl Judge for NoJudge {
 
     ghost judges = { λ before held after. ⊤ };
 
-    fn applied(&mut self, _held: &Held) {}
+    fn applied(&mut self, _held: &Held, _kind: Kind, _did: Outcome) {}
 }

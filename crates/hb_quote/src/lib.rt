@@ -3,4 +3,4 @@
 
 mod name;
 
-pub use name::{add_policy, put_name, str_of};
+pub use name::{add_policy, add_word, put_name, str_of};

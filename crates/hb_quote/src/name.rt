@@ -63,6 +63,19 @@ pub fn put_name(alloc: Global, name: &Text, line: &mut Vec<u8>) -> Result<(), No
     line.extend_from_slice(quoted.as_bytes())
 }
 
+/// Appends a word, as `put_name` does a name.
+///
+/// Errors: `NoMemory`, and then nothing is appended.
+pub fn add_word(alloc: Global, word: &str, line: &mut String) -> Result<(), NoMemory>
+    ensures { OnOk result (string_bytes line.new ≡ string_bytes line.old ++ name_text word.now) }
+{
+    if is_plain_name(word.as_bytes()) {
+        return line.push_str(word);
+    }
+    let quoted = quoted(alloc, word)?;
+    line.push_str(quoted.as_str())
+}
+
 /// A policy's name.
 fn policy_name(alloc: Global, namespace: &str, name: &str) -> Result<String, NoMemory>
     ensures { IfOk result (λ text. string_bytes text ≡ policy_name namespace.now name.now) }

@@ -6,7 +6,7 @@ use crate::told::same;
 use hb_base::{List, Text};
 use hb_disco::{Kind, read_response};
 use hb_held::{Held, Outcome, OwnDoors, Refusal, RefusedWhy};
-use hb_lines::{outcome_line, row_line};
+use hb_lines::{outcome_line, refused_line, row_line};
 use hb_records::RecordFault;
 use std::alloc::Global;
 use std::process::Abort;
@@ -151,5 +151,36 @@ fn reasons_are_told(rt: HostRuntime) {
         ),
     ] {
         assert_why(&rt, rt.alloc(), why, want);
+    }
+}
+
+/// A resource that was refused: a plain name stands as it is, any other as a string of JSON, and so do reasons of more than a word.
+#[test]
+fn refused_resources_are_told(rt: HostRuntime) {
+    let field = 3;
+    for (kind, name, why, want) in [
+        (
+            Kind::Authorization,
+            "a/bad",
+            RefusedWhy::Record(RecordFault::BadEnum { field, value: 7 }),
+            "refused kind=authorization name=a/bad why=\"bad enum 7 in field 3\"\n",
+        ),
+        (
+            Kind::Address,
+            "",
+            RefusedWhy::NoName,
+            "refused kind=address name=\"\" why=\"no name\"\n",
+        ),
+        (
+            Kind::Address,
+            "a b\nrefused",
+            RefusedWhy::Full,
+            "refused kind=address name=\"a b\\nrefused\" why=full\n",
+        ),
+    ] {
+        let name = Text::of_str(rt.alloc(), name).expect(&rt, "memory");
+        let line = refused_line(rt.alloc(), kind, &Refusal { name, why });
+        let line = line.expect(&rt, "memory");
+        assert!(&rt; line.as_str() == want, "{line}");
     }
 }

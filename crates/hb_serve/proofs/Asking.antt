@@ -1,11 +1,11 @@
 -- A proxy that was asked for so stays one, and its audits hold what they held.
-use Rattle.std.proofs.Common.{◌≡◌, List, [], ◌∷◌, ◌++◌, Option, Some, None, Result, Ok, Err, OnOk, sym, subst, ◌∙◌}
+use Rattle.std.proofs.Common.{◌≡◌, ℕ, inl, inr, ⊎_elim, List, [], ◌∷◌, ◌++◌, Option, Some, None, Result, Ok, Err, OnOk, sym, subst, ◌∙◌}
 use Rattle.std.specs.Prelude.{⊤, IfNone, IfSome}
 use Rattle.hb_audit.specs.Tells.{Answering}
 use Rattle.hb_base.specs.declared.cause.Cause.{Cause}
 use Rattle.hb_base.specs.declared.note.Note.{Note}
 use Rattle.hb_model.specs.declared.config.NodeConfig.{NodeConfig}
-use Rattle.hb_turns.specs.Shown.{Tells, Acts, StandsForNone}
+use Rattle.hb_turns.specs.Shown.{Shown, IsSame, Tells, StandsAs, Stirs, Acts, StandsForNone}
 use Rattle.hb_whole.specs.Sight.{shown_of}
 use Rattle.hb_whole.specs.Stands.{Stands, config_of}
 use Rattle.hb_whole.specs.declared.proxy.Proxy.{Proxy}
@@ -17,6 +17,15 @@ use Rattle.hb_serve.specs.Asked.{StandsWith}
 use Rattle.hb_reason.specs.Reasons.{Hear}
 use Rattle.hb_reason.proofs.Hearing.{longer}
 
+-- what looks the same, and stirs as much, stirred as well
+stirs_same : (trace : List Entry) (a b c : Shown) → IsSame b c → ((l : ℕ) → c.stirs l ≡ b.stirs l) → Stirs trace a b → Stirs trace a c
+stirs_same trace a b c same stirs s = record {
+  kept = λ l alive was. stirs l ∙ s.kept l alive was;
+  reads = λ l alive none. ⊎_elim (λ is. inl (same.wants l ∙ is)) (λ is. inr (stirs l ∙ is)) (s.reads l alive none);
+  writes = λ l alive none. ⊎_elim (λ is. inl (same.output l ∙ is)) (λ is. inr (stirs l ∙ is)) (s.writes l alive none);
+  ends_for = same.ends_for ∙ s.ends_for;
+}
+
 -- audits of a type, of which each may answer so
 module _ {A : Type 0} (answers : Answering A) where
   -- it is told an entry
@@ -25,6 +34,20 @@ module _ {A : Type 0} (answers : Answering A) where
   tells_as g before now x old new tells same taken trace stands may =
       let told = tells taken trace stands.0 may in
       ((told.0, (same ∙ stands.1.0, longer g trace answers before x now taken stands.1.1)), told.1)
+
+  -- it is told an entry, and then stands for what it stood for, and looks the same
+  pub tells_then : (g : NodeConfig) (before now : List A) (x : Entry) (old mid new : Proxy) → Tells Stands shown_of x old mid
+      → config_of mid ≡ config_of old → StandsAs Stands mid new → IsSame (shown_of mid) (shown_of new)
+      → ((l : ℕ) → (shown_of new).stirs l ≡ (shown_of mid).stirs l) → config_of new ≡ config_of mid
+      → Tells (λ taken p trace. StandsWith answers g before taken p now trace) shown_of x old new
+  tells_then g before now x old mid new tells same stands_as looks stirs still =
+      tells_as g before now x old new
+      (λ taken trace stands may.
+      let told = tells taken trace stands may in (
+        stands_as taken (trace ++ x ∷ []) told.0,
+        stirs_same (trace ++ x ∷ []) (shown_of old) (shown_of mid) (shown_of new) looks stirs told.1,
+      ))
+      (still ∙ same)
 
   -- no act is left behind the end of a run: no link lives
   pub none_as : (g : NodeConfig) (before now : List A) (a : Option Act) (o : Option Cause) (p : Proxy)

@@ -12,7 +12,7 @@ use hb_base::{Cause, Door, NoMemory, Note, Why};
 use hb_held::Held;
 use hb_reason::reason_beside;
 use hb_turns::Node;
-use hb_whole::Proxy;
+use hb_whole::{Applied, Proxy};
 use hb_world::Act;
 use std::marker::{Brand, PhantomData};
 
@@ -77,6 +77,13 @@ fn tell<A: Audit>(audits: &mut Audits<A>, held: &Held, note: &Option<Note>)
     }
 }
 
+/// Tells what responses did.
+fn tell_applied<A: Audit>(audits: &Audits<A>, applied: &[Applied]) {
+    for response in applied {
+        audits.applied(response.kind, &response.did);
+    }
+}
+
 impl<G: Given<A>, A: Audit> Node for Asked<G, A> {
     ghost use Rattle.hb_audit.specs.HeldBy.{each, answers_by};
     ghost use Rattle.hb_whole.proofs.Resting as whole;
@@ -110,8 +117,12 @@ impl<G: Given<A>, A: Audit> Node for Asked<G, A> {
         self.proxy.first()
     }
 
+    /// What responses did is told to the audits as soon as they are applied.
     fn take_bytes(&mut self, link: u64, bytes: &[u8]) -> Result<(), NoMemory> {
-        self.proxy.take_bytes(link, bytes)
+        self.proxy.take_bytes(link, bytes)?;
+        tell_applied(&self.audits, self.proxy.applied());
+        self.proxy.forget_applied();
+        Ok(())
     }
 
     fn ended(&mut self, link: u64) {
@@ -124,7 +135,7 @@ impl<G: Given<A>, A: Audit> Node for Asked<G, A> {
 
     fn tick(&mut self) {
         self.proxy.tick();
-        self.audits.ticked(self.proxy.held().synced());
+        self.audits.ticked(self.proxy.held());
     }
 
     fn output(&self, link: u64) -> &[u8] {

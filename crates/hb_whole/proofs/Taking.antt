@@ -1,4 +1,4 @@
--- A note is taken, and a link that stirred is told.
+-- A note is taken, what responses did is forgotten, and a link that stirred is told.
 use Rattle.std.proofs.Common.{◌≡◌, ◌⊎◌, inl, inr, ⊎_elim, ℕ, Bool, true, false, if◌then◌else◌, List, ◌++◌, Result, Ok, Err, IfOk, Option, Some, None, refl, ap, sym, ◌∙◌, subst}
 use Rattle.std.specs.Option.{option_to_list}
 use Rattle.std.proofs.lemmas.List.{append_assoc}
@@ -16,7 +16,7 @@ use Rattle.hb_proxy.specs.Seen.{IsLinkThere}
 use Rattle.hb_relays.specs.Calls.{IsPresent, has_of}
 use Rattle.hb_relays.specs.Stirring as relays
 use Rattle.hb_relays.specs.declared.relays.Relays.{Relays}
-use Rattle.hb_turns.specs.Shown.{Hears}
+use Rattle.hb_turns.specs.Shown.{Hears, StandsAs}
 use Rattle.hb_world.specs.Trace.{lives}
 use Rattle.hb_world.specs.declared.entry.Entry.{Entry}
 use Rattle.hb_whole.specs.Queue.{told, waiting}
@@ -26,6 +26,7 @@ use Rattle.hb_whole.specs.declared.owner.Owner.{Owner}
 use Rattle.hb_whole.specs.declared.owner.Owner.TheVariants.{Control, Plain, Inbound}
 use Rattle.hb_whole.specs.declared.proxy.Proxy.{Proxy}
 use Rattle.hb_whole.specs.declared.queue.Queue.{Queue}
+use Rattle.hb_whole.specs.declared.side.Side.{Side}
 use Rattle.hb_whole.proofs.Limited.{limited_then}
 use Rattle.hb_whole.proofs.Routes.{LinkRoute, PlainRoute, to_link, to_up, to_plain, to_relay, to_gate, is_owned, link_route, plain_route}
 
@@ -56,6 +57,29 @@ takes_next p q (Ok note) head still = λ taken trace s. record {
   links = s.links;
   relays = s.relays;
   noted = notes_taken taken note p.side.notes q s.points head still s.noted;
+  dial = s.dial;
+  ends = s.ends;
+  sound = s.sound;
+}
+
+-- WHAT RESPONSES DID
+
+-- what is kept of responses, as another side has it
+abbrev pub with_applied : Side → Proxy → Proxy
+with_applied side p = record p { side = record p.side { applied = side.applied } }
+
+-- it counts for nothing that a proxy stands for
+pub forgets : (side : Side) (p : Proxy) → StandsAs Stands p (with_applied side p)
+forgets side p taken trace s = record {
+  limited = limited_then p (with_applied side p) s.machine s.machine refl refl (λ is. is) (λ few. few) s.limited;
+  machine = s.machine;
+  points = s.points;
+  run = s.run;
+  trace_is = s.trace_is;
+  control = s.control;
+  links = s.links;
+  relays = s.relays;
+  noted = s.noted;
   dial = s.dial;
   ends = s.ends;
   sound = s.sound;

@@ -14,6 +14,7 @@ use Rattle.hb_whole.specs.Queue.{waiting}
 use Rattle.hb_whole.specs.declared.owner.Owner.{Owner}
 use Rattle.hb_whole.specs.declared.owner.Owner.TheVariants.{Control, Plain, Inbound}
 use Rattle.hb_whole.specs.declared.proxy.Proxy.{Proxy}
+use Rattle.hb_whole.specs.declared.side.Applied.{Applied}
 use Rattle.hb_whole.specs.declared.side.Side.{Side}
 
 -- a link is the one to the control plane that lives
@@ -80,6 +81,10 @@ has_room p = nat_lt (links.count_of p.side.links + relays.gate_count p.side.rela
 -- how many places the tunnels of inbound links may take: each plain link that is kept takes one
 abbrev pub places_of : Proxy → ℕ
 places_of p = p.limits.tunnels - relays.count_of p.side.relays
+
+-- what the responses did that were applied and weren't forgotten
+abbrev pub applied_of : Proxy → List Applied
+applied_of p = p.side.applied.items
 
 abbrev pub shown_of : Proxy → Shown
 shown_of p = record {

@@ -8,3 +8,4 @@ mod queue;
 mod side;
 
 pub use proxy::Proxy;
+pub use side::Applied;

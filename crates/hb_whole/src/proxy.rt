@@ -6,17 +6,17 @@ ghost use Rattle.hb_base.specs.declared.note.Note.{Note};
 ghost use Rattle.hb_base.specs.declared.target.Target.{Target};
 ghost use Rattle.hb_world.specs.declared.entry.Entry.{Entry};
 ghost use Rattle.hb_world.specs.declared.entry.Entry.TheVariants as e;
-ghost use Rattle.hb_turns.specs.Shown.{IsFront, IsSame, Hears, Tells, StandsForNone, Stops, Acts, ActsFor, dial_entry};
+ghost use Rattle.hb_turns.specs.Shown.{IsFront, IsSame, Hears, Tells, StandsAs, StandsForNone, Stops, Acts, ActsFor, dial_entry};
 ghost use Rattle.hb_frames.specs.Frames.{AreOctets};
 ghost use Rattle.hb_turns.specs.Served.{IsFreshNode};
 ghost use Rattle.hb_whole.specs.Acting.{dial_in, is_strange, given_by, act_of};
 ghost use Rattle.hb_whole.specs.Queue.{told};
-ghost use Rattle.hb_whole.specs.Sight.{owns, owner_of, own_told, has_room, places_of, shown_of};
+ghost use Rattle.hb_whole.specs.Sight.{owns, owner_of, own_told, has_room, places_of, shown_of, applied_of};
 ghost use Rattle.hb_whole.specs.Stands.{Stands, config_of, held_of};
 
 use crate::owner::Owner;
 use crate::queue::Queue;
-use crate::side::Side;
+use crate::side::{Applied, Side};
 use hb_base::{Cause, Door, NoMemory, Note, Target, Why};
 use hb_held::Held;
 use hb_links::Links;
@@ -77,6 +77,7 @@ impl Proxy {
                 links: Links::new(alloc),
                 relays: Relays::new(alloc, hbone_port),
                 notes: Queue::new(alloc),
+                applied: Vec::new(alloc),
             },
             limits,
             stirs: false,
@@ -91,6 +92,25 @@ impl Proxy {
         ensures { result.now ≡ held_of self.now }
     {
         self.control.held()
+    }
+
+    /// What the responses did that were applied and weren't forgotten, in order. One for which memory lacked isn't there.
+    pub fn applied(&self) -> &[Applied]
+        ensures { result.now ≡ applied_of self.now }
+    {
+        self.side.applied.as_slice()
+    }
+
+    /// Forgets what the responses did that were applied so far.
+    pub fn forget_applied(&mut self)
+        ensures none { applied_of self.new ≡ [] }
+        ensures stands { StandsAs Stands self.old self.new }
+        ensures same { IsSame (shown_of self.old) (shown_of self.new) }
+        ensures stirs { (l : ℕ) → (shown_of self.new).stirs l ≡ (shown_of self.old).stirs l }
+        ensures noted { (shown_of self.new).noted ≡ (shown_of self.old).noted }
+        ensures config { config_of self.new ≡ config_of self.old }
+    {
+        self.side.applied.clear();
     }
 
     /// Whether a link is the one to the control plane that lives.

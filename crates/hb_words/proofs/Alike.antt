@@ -61,4 +61,6 @@ asked_alike Serve v w same =
       same (codes "ticks") _ refl,
       same (codes "status") _ refl,
       same (codes "stop-on-input") _ refl,
+      same (codes "quiet") _ refl,
+      same (codes "notes-only") _ refl,
     ) refl

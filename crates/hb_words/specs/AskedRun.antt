@@ -28,7 +28,14 @@ abbrev pub replay_seen : GivenReplay → Replay
 replay_seen r = record { run = run_seen r.run; trace = r.trace; brief = r.brief }
 
 abbrev pub serve_seen : GivenServe → Serve
-serve_seen s = record { run = run_seen s.run; ticks = s.ticks; stop_on_input = s.stop_on_input; status = s.status }
+serve_seen s = record {
+  run = run_seen s.run;
+  ticks = s.ticks;
+  stop_on_input = s.stop_on_input;
+  status = s.status;
+  quiet = s.quiet;
+  notes_only = s.notes_only;
+}
 
 abbrev pub replay_answer : Result GivenReplay Why → Result Replay Why
 replay_answer (Ok r) = Ok (replay_seen r)

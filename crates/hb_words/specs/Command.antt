@@ -43,13 +43,15 @@ pub record Replay : Type 0 where
   pub trace : Bool
   pub brief : Bool
 
--- what `serve` asks: a run over real sockets, the tick that ends it, if a number of them does, whether standard input ends it, and where
--- its state is told, if it is
+-- what `serve` asks: a run over real sockets, the tick that ends it, if a number of them does, whether standard input ends it, where its
+-- state is told, if it is, and whether the lines of notes, or all others, are left out
 pub record Serve : Type 0 where
   pub run : RunWords
   pub ticks : Option ℕ
   pub stop_on_input : Bool
   pub status : Option Target
+  pub quiet : Bool
+  pub notes_only : Bool
 
 -- what is asked for: an answer to a question, the way of a connection, what is held, a run over a script, one over real sockets, a script
 -- that is made, or a page

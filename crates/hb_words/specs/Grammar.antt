@@ -30,7 +30,10 @@ parts_of Route =
 parts_of Show = flag (codes "fields") ∷ []
 parts_of Make = place (codes "N") true ∷ flag (codes "run") ∷ []
 parts_of Replay = run_parts (flag (codes "trace") ∷ flag (codes "brief") ∷ [])
-parts_of Serve = run_parts (option (codes "ticks") false ∷ option (codes "status") false ∷ flag (codes "stop-on-input") ∷ [])
+parts_of Serve =
+    run_parts
+    (option (codes "ticks") false ∷ option (codes "status") false ∷ flag (codes "stop-on-input") ∷ flag (codes "quiet")
+    ∷ flag (codes "notes-only") ∷ [])
 
 -- the command, by the word that names it
 abbrev pub declared : CommandName → Command

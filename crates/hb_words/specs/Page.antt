@@ -10,7 +10,7 @@ use Rattle.hb_words.specs.declared.part.CommandName.TheVariants.{Check, Route, S
 use Rattle.hb_words.specs.declared.part.PartName.{PartName}
 use Rattle.hb_words.specs.declared.part.PartName.TheVariants.{Node, Network, Explain, Source, Identity, Target, Fields, Id, Discovery}
 use Rattle.hb_words.specs.declared.part.PartName.TheVariants.{Inbound, Outbound, Plain, HbonePort, Tunnels, Turns, Ticks, Status}
-use Rattle.hb_words.specs.declared.part.PartName.TheVariants.{StopOnInput, Trace, Brief, Count, Run}
+use Rattle.hb_words.specs.declared.part.PartName.TheVariants.{StopOnInput, Quiet, NotesOnly, Trace, Brief, Count, Run}
 use Rattle.hb_words.specs.Grammar.{command_text, parts_of}
 use Rattle.hb_words.specs.Part.{id_text, command_named}
 
@@ -92,6 +92,8 @@ part_line Turns = codes "  --turns COUNT         the most turns of the event loo
 part_line Ticks = codes "  --ticks COUNT         the tick of the timer, about one a second, that ends the run\n"
 part_line Status = codes "  --status TARGET       where the state of the run is told over HTTP; without it nowhere\n"
 part_line StopOnInput = codes "  --stop-on-input       ends the run where standard input ends or has a byte\n"
+part_line Quiet = codes "  --quiet               writes no line of an answer, of its reason, or of an end\n"
+part_line NotesOnly = codes "  --notes-only          writes the lines of answers, of their reasons, and of ends alone\n"
 part_line Trace = codes "  --trace               tells each call on a socket, too\n"
 part_line Brief = codes "  --brief               tells the totals alone\n"
 part_line Count = codes "  N                     the number of tunnels, 1 to 1000\n"
@@ -106,7 +108,8 @@ shown_parts Make = Count ∷ Run ∷ []
 shown_parts Replay =
     Node ∷ Id ∷ Discovery ∷ Inbound ∷ Outbound ∷ Plain ∷ Network ∷ HbonePort ∷ Tunnels ∷ Turns ∷ Trace ∷ Brief ∷ []
 shown_parts Serve =
-    Node ∷ Id ∷ Discovery ∷ Inbound ∷ Outbound ∷ Plain ∷ Network ∷ HbonePort ∷ Tunnels ∷ Turns ∷ Ticks ∷ Status ∷ StopOnInput ∷ []
+    Node ∷ Id ∷ Discovery ∷ Inbound ∷ Outbound ∷ Plain ∷ Network ∷ HbonePort ∷ Tunnels ∷ Turns ∷ Ticks ∷ Status ∷ StopOnInput ∷ Quiet
+    ∷ NotesOnly ∷ []
 
 -- the commands, in the order of their lines
 abbrev pub shown_commands : List CommandName

@@ -6,7 +6,7 @@ use Rattle.hb_words.specs.declared.part.CommandName.TheVariants.{Check, Route, S
 use Rattle.hb_words.specs.declared.part.PartName.{PartName}
 use Rattle.hb_words.specs.declared.part.PartName.TheVariants.{Node, Network, Explain, Source, Identity, Target, Fields, Id, Discovery}
 use Rattle.hb_words.specs.declared.part.PartName.TheVariants.{Inbound, Outbound, Plain, HbonePort, Tunnels, Turns, Ticks, Status}
-use Rattle.hb_words.specs.declared.part.PartName.TheVariants.{StopOnInput, Trace, Brief, Count, Run}
+use Rattle.hb_words.specs.declared.part.PartName.TheVariants.{StopOnInput, Quiet, NotesOnly, Trace, Brief, Count, Run}
 
 -- the command that a word names
 abbrev pub command_named : List ℕ → Option CommandName
@@ -38,6 +38,8 @@ id_text Turns = codes "turns"
 id_text Ticks = codes "ticks"
 id_text Status = codes "status"
 id_text StopOnInput = codes "stop-on-input"
+id_text Quiet = codes "quiet"
+id_text NotesOnly = codes "notes-only"
 id_text Trace = codes "trace"
 id_text Brief = codes "brief"
 id_text Count = codes "N"
@@ -61,9 +63,11 @@ any_flag name =
     if bytes_eq name (codes "--explain") then Some Explain
     else (if bytes_eq name (codes "--fields") then Some Fields
     else (if bytes_eq name (codes "--stop-on-input") then Some StopOnInput
+    else (if bytes_eq name (codes "--quiet") then Some Quiet
+    else (if bytes_eq name (codes "--notes-only") then Some NotesOnly
     else (if bytes_eq name (codes "--trace") then Some Trace
     else (if bytes_eq name (codes "--brief") then Some Brief
-    else (if bytes_eq name (codes "--run") then Some Run else None)))))
+    else (if bytes_eq name (codes "--run") then Some Run else None)))))))
 
 abbrev pub other_option : List ℕ → Option PartName
 other_option name =
@@ -101,6 +105,8 @@ abbrev pub is_flag : PartName → Bool
 is_flag Explain = true
 is_flag Fields = true
 is_flag StopOnInput = true
+is_flag Quiet = true
+is_flag NotesOnly = true
 is_flag Trace = true
 is_flag Brief = true
 is_flag Run = true
@@ -126,6 +132,8 @@ has Replay p = is_run_option p
 has Serve Ticks = true
 has Serve Status = true
 has Serve StopOnInput = true
+has Serve Quiet = true
+has Serve NotesOnly = true
 has Serve p = is_run_option p
 
 abbrev pub held : {A : Type 0} → (A → Bool) → Option A → Option A

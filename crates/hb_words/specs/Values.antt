@@ -19,7 +19,7 @@ use Rattle.hb_words.specs.declared.part.CommandName.TheVariants as command
 use Rattle.hb_words.specs.declared.part.PartName.{PartName}
 use Rattle.hb_words.specs.declared.part.PartName.TheVariants.{Node, Network, Explain, Source, Identity as Peer, Target, Fields, Id}
 use Rattle.hb_words.specs.declared.part.PartName.TheVariants.{Discovery, Inbound, Outbound, Plain, HbonePort, Tunnels, Turns, Ticks}
-use Rattle.hb_words.specs.declared.part.PartName.TheVariants.{Status, StopOnInput, Trace, Brief, Count, Run}
+use Rattle.hb_words.specs.declared.part.PartName.TheVariants.{Status, StopOnInput, Quiet, NotesOnly, Trace, Brief, Count, Run}
 use Rattle.hb_words.specs.Command.{Question, Route, Command, RunWords, Replay, Serve, checks, routes, shows, replays, serves, makes}
 use Rattle.hb_words.specs.Make.{most_tunnels}
 use Rattle.hb_words.specs.Number.{number_of}
@@ -139,7 +139,14 @@ serve_by v =
     and_then (run_by v) (λ r.
     and_then (number_in v Ticks 18446744073709551615) (λ ticks.
     and_then (target_in v Status) (λ status.
-    Ok (record { run = r; ticks = ticks; stop_on_input = is_raised v StopOnInput; status = status }))))
+    Ok (record {
+      run = r;
+      ticks = ticks;
+      stop_on_input = is_raised v StopOnInput;
+      status = status;
+      quiet = is_raised v Quiet;
+      notes_only = is_raised v NotesOnly;
+    }))))
 
 -- what the command asks that has these values, or the first that isn't of its grammar and range
 unfoldable pub asked_by : CommandName → Values → Result Command Why

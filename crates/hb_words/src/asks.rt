@@ -77,6 +77,10 @@ pub struct Serve<'a> {
     pub stop_on_input: bool,
     /// Where the state of the run is told over HTTP. None: nowhere.
     pub status: Option<Target>,
+    /// Whether the lines of answers and ends are left out.
+    pub quiet: bool,
+    /// Whether all others are.
+    pub notes_only: bool,
 }
 
 /// What `make` asks: a script of so many tunnels.

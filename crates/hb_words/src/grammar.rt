@@ -73,6 +73,8 @@ static COMMANDS: [Declaration<'static>; 6] = [
             Part::Valued("ticks", false),
             Part::Valued("status", false),
             Part::Flag("stop-on-input"),
+            Part::Flag("quiet"),
+            Part::Flag("notes-only"),
         ],
     },
 ];

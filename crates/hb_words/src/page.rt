@@ -69,7 +69,7 @@ static REPLAY_PARTS: [PartName; 12] = [
     PartName::Brief,
 ];
 
-static SERVE_PARTS: [PartName; 13] = [
+static SERVE_PARTS: [PartName; 15] = [
     PartName::Node,
     PartName::Id,
     PartName::Discovery,
@@ -83,6 +83,8 @@ static SERVE_PARTS: [PartName; 13] = [
     PartName::Ticks,
     PartName::Status,
     PartName::StopOnInput,
+    PartName::Quiet,
+    PartName::NotesOnly,
 ];
 
 /// The page that one word asks for.
@@ -251,6 +253,12 @@ impl PartName {
             }
             PartName::StopOnInput => {
                 "  --stop-on-input       ends the run where standard input ends or has a byte\n"
+            }
+            PartName::Quiet => {
+                "  --quiet               writes no line of an answer, of its reason, or of an end\n"
+            }
+            PartName::NotesOnly => {
+                "  --notes-only          writes the lines of answers, of their reasons, and of ends alone\n"
             }
             PartName::Fields => {
                 "  --fields              tells the fields of each resource held, too\n"

@@ -40,6 +40,10 @@ pub enum PartName {
     /// Where the state of the run is told.
     Status,
     StopOnInput,
+    /// No line of an answer or an end is written.
+    Quiet,
+    /// No other is.
+    NotesOnly,
     Trace,
     Brief,
     /// The number of tunnels of `make`.
@@ -140,6 +144,12 @@ fn any_flag(name: &str) -> Option<PartName>
     if name == "--stop-on-input" {
         return Some(PartName::StopOnInput);
     }
+    if name == "--quiet" {
+        return Some(PartName::Quiet);
+    }
+    if name == "--notes-only" {
+        return Some(PartName::NotesOnly);
+    }
     if name == "--trace" {
         return Some(PartName::Trace);
     }
@@ -176,6 +186,8 @@ impl PartName {
             PartName::Ticks => "ticks",
             PartName::Status => "status",
             PartName::StopOnInput => "stop-on-input",
+            PartName::Quiet => "quiet",
+            PartName::NotesOnly => "notes-only",
             PartName::Trace => "trace",
             PartName::Brief => "brief",
             PartName::Count => "N",
@@ -220,6 +232,8 @@ impl PartName {
             PartName::Explain
                 | PartName::Fields
                 | PartName::StopOnInput
+                | PartName::Quiet
+                | PartName::NotesOnly
                 | PartName::Trace
                 | PartName::Brief
                 | PartName::Run
@@ -265,7 +279,11 @@ impl CommandName {
                 part.is_run_option()
                     || matches!(
                         part,
-                        PartName::Ticks | PartName::Status | PartName::StopOnInput
+                        PartName::Ticks
+                            | PartName::Status
+                            | PartName::StopOnInput
+                            | PartName::Quiet
+                            | PartName::NotesOnly
                     )
             }
         }

@@ -205,6 +205,8 @@ fn serve<'a>(values: &ArgMatches<'a>) -> Result<Serve<'a>, Why>
         ticks: number(values, PartName::Ticks, u64::MAX)?,
         status: target(values, PartName::Status)?,
         stop_on_input: is_raised(values, PartName::StopOnInput),
+        quiet: is_raised(values, PartName::Quiet),
+        notes_only: is_raised(values, PartName::NotesOnly),
     })
 }
 

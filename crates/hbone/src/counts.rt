@@ -1,7 +1,11 @@
 //! What a run counts for whoever asks after its state.
 
 use hb_base::{Cause, NoMemory, Note};
+use hb_disco::Kind;
+use hb_held::{Held, HeldRecord, Outcome};
+use hb_records::AddressRecord;
 use std::alloc::Global;
+use std::sync::Mutex;
 use std::sync::atomic::{AtomicBool, AtomicU64, Ordering};
 
 /// The status of a tunnel that is let in.
@@ -39,7 +43,28 @@ static CAUSES: [Cause; 11] = [
     Cause::NoMemory,
 ];
 
-/// How often a thing of this word came.
+/// The kinds of what is held.
+const WORKLOADS: &str = "workloads";
+
+const SERVICES: &str = "services";
+
+const POLICIES: &str = "policies";
+
+static HELD: [&'static str; 3] = [WORKLOADS, SERVICES, POLICIES];
+
+/// The kinds of links.
+static LINKS: [&'static str; 6] = [
+    "control", "inbound", "outbound", "plain", "gateway", "upstream",
+];
+
+/// The kinds of responses, and of their resources.
+const ADDRESS: &str = "address";
+
+const AUTHORIZATION: &str = "authorization";
+
+static KINDS: [&'static str; 2] = [ADDRESS, AUTHORIZATION];
+
+/// How often a thing of this word came, or how many there are.
 #[derive(Drop)]
 pub(crate) struct Counter {
     pub word: &'static str,
@@ -58,6 +83,20 @@ pub(crate) struct Counts {
     /// The bytes of the tunnels that ended.
     up: AtomicU64,
     down: AtomicU64,
+    /// What is held, as of the last tick, by kind.
+    pub held: Vec<Counter>,
+    /// The links that live, by kind.
+    pub links: Vec<Counter>,
+    /// The responses that were applied, by kind.
+    pub updates: Vec<Counter>,
+    /// Their resources that were refused, by kind.
+    pub refused: Vec<Counter>,
+    /// Whether a response was applied since what is held was counted.
+    is_stale: AtomicBool,
+    /// Whether the state was asked for since it was handed over.
+    is_asked: AtomicBool,
+    /// The state that was handed over, until it is taken.
+    state: Mutex<Option<String>>,
     /// Whether workloads and policies were told, as of the last tick.
     is_synced: AtomicBool,
     /// Whether the lines of the notes ended, since one couldn't be taken.
@@ -100,6 +139,41 @@ fn count(counters: &[Counter], word: &str) {
     }
 }
 
+/// Adds so many of this word.
+fn add(counters: &[Counter], word: &str, number: u64) {
+    for counter in counters {
+        if counter.word == word {
+            counter.times.fetch_add(number, Ordering::SeqCst);
+        }
+    }
+}
+
+/// One counter for each of these words.
+fn counters(alloc: Global, words: &[&'static str]) -> Result<Vec<Counter>, NoMemory> {
+    let mut counters = Vec::new(alloc);
+    for word in words {
+        counters.push(Counter::new(word))?;
+    }
+    Ok(counters)
+}
+
+/// The word of a kind.
+fn kind_word(kind: Kind) -> &'static str {
+    match kind {
+        Kind::Address => ADDRESS,
+        Kind::Authorization => AUTHORIZATION,
+    }
+}
+
+/// The word of what is held.
+fn held_word(record: &HeldRecord<'_>) -> &'static str {
+    match record {
+        HeldRecord::Address(AddressRecord::Workload(_)) => WORKLOADS,
+        HeldRecord::Address(AddressRecord::Service(_)) => SERVICES,
+        HeldRecord::Policy(_) => POLICIES,
+    }
+}
+
 /// The sum of all.
 fn sum(counters: &[Counter]) -> u64 {
     let mut sum: u64 = 0;
@@ -130,6 +204,13 @@ impl Counts {
             ends,
             up: AtomicU64::new(0),
             down: AtomicU64::new(0),
+            held: counters(alloc, HELD.as_slice())?,
+            links: counters(alloc, LINKS.as_slice())?,
+            updates: counters(alloc, KINDS.as_slice())?,
+            refused: counters(alloc, KINDS.as_slice())?,
+            is_stale: AtomicBool::new(false),
+            is_asked: AtomicBool::new(false),
+            state: Mutex::new(None),
             is_synced: AtomicBool::new(false),
             is_silent: AtomicBool::new(false),
             is_over: AtomicBool::new(false),
@@ -151,6 +232,69 @@ impl Counts {
                 count(self.ends.as_slice(), cause.word());
             }
         }
+    }
+
+    /// A link of this kind is born.
+    pub fn add_link(&self, word: &str) {
+        add(self.links.as_slice(), word, 1);
+    }
+
+    /// A link of this kind is closed.
+    pub fn remove_link(&self, word: &str) {
+        for counter in self.links.iter() {
+            if counter.word == word {
+                counter.times.fetch_sub(1, Ordering::SeqCst);
+            }
+        }
+    }
+
+    /// Counts a response that was applied, and what it refused.
+    pub fn apply(&self, kind: Kind, did: &Outcome) {
+        let word = kind_word(kind);
+        add(self.updates.as_slice(), word, 1);
+        add(self.refused.as_slice(), word, did.refused.len() as u64);
+        self.is_stale.store(true, Ordering::SeqCst);
+    }
+
+    /// Whether a response was applied since what is held was counted.
+    pub fn is_stale(&self) -> bool {
+        self.is_stale.load(Ordering::SeqCst)
+    }
+
+    /// Counts what is held.
+    pub fn hold(&self, held: &Held) {
+        for counter in self.held.iter() {
+            counter.times.store(0, Ordering::SeqCst);
+        }
+        let mut rows = held.rows();
+        while let Some(row) = rows.next() {
+            add(self.held.as_slice(), held_word(&row.content), 1);
+        }
+        self.is_stale.store(false, Ordering::SeqCst);
+    }
+
+    /// The state is to be handed over.
+    pub fn ask_state(&self) {
+        self.is_asked.store(true, Ordering::SeqCst);
+    }
+
+    /// Whether the state is to be handed over.
+    pub fn is_asked(&self) -> bool {
+        self.is_asked.load(Ordering::SeqCst)
+    }
+
+    /// Hands the state over, unless the one before is just being taken: then it stays asked for.
+    pub fn give_state(&self, state: String) {
+        if let Some(mut place) = self.state.try_lock() {
+            *place = Some(state);
+            self.is_asked.store(false, Ordering::SeqCst);
+        }
+    }
+
+    /// Takes the state that was handed over. `None` where none was since it was taken last, or where one is just being.
+    pub fn take_state(&self) -> Option<String> {
+        let mut place = self.state.try_lock()?;
+        place.take()
     }
 
     /// The loop looked up.

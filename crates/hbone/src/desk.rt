@@ -11,13 +11,25 @@ use std::sync::Arc;
 /// A loop that turns was seen to look up within so many seconds.
 const TURNS: u64 = 10;
 
-/// Answers a GET of `/live`, `/ready` and `/metrics`, one to a connection.
+/// A state that was handed over is told for so many seconds.
+const FRESH: u64 = 5;
+
+/// A state of the run that was handed over so many seconds ago.
+#[derive(Drop)]
+pub(crate) struct Handed {
+    pub text: String,
+    pub age: u64,
+}
+
+/// Answers a GET of `/live`, `/ready`, `/metrics` and `/state`, one to a connection.
 #[derive(Drop)]
 pub(crate) struct Desk {
     pub alloc: Global,
     pub counts: Arc<Counts, Global>,
     /// So many seconds ago the loop was seen to look up.
     pub quiet: u64,
+    /// The state that was handed over last.
+    pub handed: Option<Handed>,
 }
 
 /// Adds a text of a kind.
@@ -64,6 +76,23 @@ impl Desk {
         add(response, text.as_str(), kind)
     }
 
+    /// 200 with the state, where it was handed over not too long ago. Else 503, since the loop hands it over at its next tick.
+    fn add_handed(&self, response: &mut Response) -> Result<(), AllocError> {
+        self.counts.ask_state();
+        match &self.handed {
+            Some(handed) if handed.age <= FRESH => {
+                let kind = HeaderValue::from_static("application/json");
+                add(response, handed.text.as_str(), kind)
+            }
+            _ => {
+                response.status = StatusCode::SERVICE_UNAVAILABLE;
+                response.add_header(header::RETRY_AFTER, HeaderValue::from_static("1"))?;
+                let kind = HeaderValue::from_static("text/plain");
+                add(response, "the state is there at the next tick\n", kind)
+            }
+        }
+    }
+
     fn answer(&self, request: &Request<Bytes>, response: &mut Response) -> Result<(), AllocError> {
         response.add_header(header::CONNECTION, HeaderValue::from_static("close"))?;
         if *request.method() != Method::GET {
@@ -74,6 +103,7 @@ impl Desk {
             "/live" => self.add_state(response, false, "live\n"),
             "/ready" => self.add_state(response, true, "ready\n"),
             "/metrics" => self.add_metrics(response),
+            "/state" => self.add_handed(response),
             _ => {
                 response.status = StatusCode::NOT_FOUND;
                 Ok(())

@@ -72,6 +72,8 @@ impl<K: Sink> Polled for StandardError<K> {
 pub(crate) struct ErrorLog<K: Drop> {
     pub lines: SharedAudit<K>,
     pub counts: Option<Arc<Counts, Global>>,
+    /// Whether what is logged around the world is left out.
+    pub quiet: bool,
 }
 
 impl<K: Polled + Drop> Log for ErrorLog<K> {
@@ -93,7 +95,9 @@ impl<K: Polled + Drop> hb_log::Log for ErrorLog<K> {
     ghost handed = { λ l. None };
 
     fn line(&mut self, line: &str) {
-        self.lines.tell(line);
+        if !self.quiet {
+            self.lines.tell(line);
+        }
     }
 }
 

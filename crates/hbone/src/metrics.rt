@@ -95,6 +95,37 @@ fn add_tunnels(text: &mut String, alloc: Global, counts: &Counts) -> Result<(), 
     add_sample(text, alloc, bytes, "{direction=\"down\"}", counts.down())
 }
 
+/// Adds what is known of links, of what is held, and of responses.
+fn add_mesh(text: &mut String, alloc: Global, counts: &Counts) -> Result<(), NoMemory> {
+    let links = "hbone_links";
+    add_head(text, links, "gauge", "Links that live, by kind.")?;
+    add_each(text, alloc, links, "kind", counts.links.as_slice())?;
+    let held = "hbone_held";
+    add_head(
+        text,
+        held,
+        "gauge",
+        "Resources that are held, as of the last tick, by kind.",
+    )?;
+    add_each(text, alloc, held, "kind", counts.held.as_slice())?;
+    let updates = "hbone_updates_total";
+    add_head(
+        text,
+        updates,
+        "counter",
+        "Discovery responses that were applied, by kind.",
+    )?;
+    add_each(text, alloc, updates, "kind", counts.updates.as_slice())?;
+    let refused = "hbone_refused_total";
+    add_head(
+        text,
+        refused,
+        "counter",
+        "Resources of discovery responses that were refused, by kind.",
+    )?;
+    add_each(text, alloc, refused, "kind", counts.refused.as_slice())
+}
+
 /// Adds what is known of the event loop, which was seen to look up so many seconds ago, of the control plane, and of the lines of notes.
 fn add_loop(text: &mut String, alloc: Global, counts: &Counts, quiet: u64) -> Result<(), NoMemory> {
     add_one(
@@ -137,6 +168,7 @@ fn add_loop(text: &mut String, alloc: Global, counts: &Counts, quiet: u64) -> Re
 pub(crate) fn metrics(alloc: Global, counts: &Counts, quiet: u64) -> Result<String, NoMemory> {
     let mut text = String::new(alloc);
     add_tunnels(&mut text, alloc, counts)?;
+    add_mesh(&mut text, alloc, counts)?;
     add_loop(&mut text, alloc, counts, quiet)?;
     Ok(text)
 }

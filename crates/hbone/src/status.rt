@@ -1,7 +1,7 @@
 //! The thread that tells the state of a run over HTTP.
 
 use crate::counts::Counts;
-use crate::desk::Desk;
+use crate::desk::{Desk, Handed};
 use crate::guest::Guest;
 use hb_base::{NoMemory, Or, Target};
 use hb_mio::address_of;
@@ -49,6 +49,8 @@ pub(crate) struct Lobby {
     guests: Vec<Guest>,
     desk: Desk,
     seen: Seen,
+    /// When the state was handed over last.
+    handed: Instant,
 }
 
 /// The thread of a run that tells its state, until it is ended.
@@ -90,11 +92,13 @@ impl Lobby {
                 alloc,
                 counts,
                 quiet: 0,
+                handed: None,
             },
             seen: Seen {
                 looks: 0,
                 at: begun,
             },
+            handed: begun,
         })
     }
 
@@ -137,6 +141,18 @@ impl Lobby {
         self.desk.quiet = seconds(self.seen.at, now);
     }
 
+    /// Takes the state that was handed over, where it was.
+    fn take_state(&mut self, now: Instant) {
+        if let Some(text) = self.desk.counts.take_state() {
+            self.handed = now;
+            self.desk.handed = Some(Handed { text, age: 0 });
+        }
+        let age = seconds(self.handed, now);
+        if let Some(handed) = &mut self.desk.handed {
+            handed.age = age;
+        }
+    }
+
     /// Waits for a second at most, and does what there is to do.
     ///
     /// Errors: what the system tells of the wait or the clock.
@@ -145,6 +161,7 @@ impl Lobby {
             .poll(&mut self.events, Some(Duration::from_secs(1)))?;
         let now = Instant::now(&self.rt)?;
         self.see(now);
+        self.take_state(now);
         self.serve(now);
         self.welcome(now);
         self.serve(now);
