@@ -12,6 +12,7 @@ FORMS = {
     **dict.fromkeys(("writes", "reads", "data", "last"), r"(\w+) (\S+(?: \S+)?)"),
     **dict.fromkeys(("shuts", "drops", "closed"), r"(\w+)"),
     "stops": r"(byte|end)",
+    "fails": r"(\d+)",
     "ends": rf"({'|'.join(PORTS)}) (\d+)",
 }
 PORT_MARKS = b"#####"
