@@ -1,11 +1,23 @@
 -- Traces with which DATA begins beyond what the peer granted don't keep windows.
-use Rattle.std.proofs.Common.{◌≡◌, ◌⊎◌, inl, inr, ℕ, ◌<◌, ◌&&◌, not, Bool, true, List, [], ◌∷◌, ◌++◌, length, refl, ap, sym, ◌∙◌, subst, arith, length-append}
+use Rattle.std.proofs.Common.{◌≡◌, ◌⊎◌, inl, inr, ⊎_elim, ℕ, ◌+◌, ◌<◌, ◌≤◌, ◌^◌, ◌&&◌, not, Bool, true, List, [], ◌∷◌, ◌++◌, length, take, drop}
+use Rattle.std.proofs.Common.{Option, Some, None, refl, ap, sym, ◌∙◌, subst, arith, length-append}
+use Rattle.std.specs.Prelude.{IfSome, slice_index}
 use Rattle.std.proofs.lemmas.Bool.{ne_eqb}
 use Rattle.std.proofs.lemmas.List.{append-nil, append_assoc, append_cancel_left}
+use Rattle.hb_base.specs.declared.identity.Identity.{Identity}
+use Rattle.hb_base.specs.declared.ip.Ip.{Ip}
+use Rattle.hb_base.specs.declared.ip.Ip.TheVariants.{V4, V6}
+use Rattle.hb_base.specs.declared.target.Target.{Target}
 use Rattle.hb_conn.specs.Preface.{octets}
 use Rattle.hb_frames.proofs.FrameLists.{in_front}
 use Rattle.hb_frames.specs.Frames.{Joins}
 use Rattle.hb_frames.specs.RawFrame.{RawFrame, spelling}
+use Rattle.hb_front.proofs.TlvLists.{texts, same_size, same_parts}
+use Rattle.hb_front.specs.Header as front
+use Rattle.hb_front.specs.Header.{Header, body}
+use Rattle.hb_front.specs.Written.{octets_in, identity_text, identity_tlvs, header_of, front_text, IsSent}
+use Rattle.hb_front.specs.declared.family.Family.{Family}
+use Rattle.hb_front.specs.declared.family.Family.TheVariants.{Inet, Inet6}
 use Rattle.hb_laws.proofs.RefusedWindows.{spelled_with}
 use Rattle.hb_laws.proofs.Spelled.{frames_read}
 use Rattle.hb_laws.specs.RefusedTunnels.{data_frame}
@@ -16,9 +28,10 @@ use Rattle.hb_outgoing.specs.Waiting.{spelled}
 use Rattle.hb_world.specs.Trace.{recv, sent}
 use Rattle.hb_world.specs.declared.entry.Entry.{Entry}
 use Rattle.hb_world.specs.declared.entry.Entry.TheVariants as e
-use Rattle.hb_headline.specs.Refused.{BeginsLarge, BeginsBeyond, BeginsUngranted, sends, ungranted}
+use Rattle.hb_headline.specs.Refused.{BeginsLarge, BeginsBeyond, BeginsUngranted, GateBeginsBeyond, GateBeginsUngranted, GateUnfronted, sends, ungranted}
+use Rattle.hb_headline.specs.Refused.{through_gate}
 use Rattle.hb_headline.specs.Relay.{data_with}
-use Rattle.hb_headline.specs.Windows.{AreFirst, AreClients, IsGranted, KeepsWindows}
+use Rattle.hb_headline.specs.Windows.{AreFirst, AreClients, IsGranted, IsHeader, KeepsWindows, Windows}
 
 -- where all that goes on a link are whole frames, by one write, the last one is granted
 last_granted : (opening : List ℕ) (Came : List RawFrame → List ℕ → Type 0) (frames front : List RawFrame) (f : RawFrame)
@@ -84,6 +97,13 @@ settings_read (g ∷ got) rest join =
     let none = none_joined got rest (subst (Joins got rest) first.rest join.4) in
     inr (ap (λ (fs : List RawFrame). g ∷ fs) none ∙ ap (λ (x : RawFrame). x ∷ []) (sym first.frame))
 
+-- by them no octet is granted on a stream
+none_fits : (byte : ℕ) (got : List RawFrame) → IsGranted (data_with byte) (ack ∷ []) got → (got ≡ []) ⊎ (got ≡ none_granted ∷ []) → ⊥
+none_fits byte got granted (inl none) =
+    let counts = (subst (IsGranted (data_with byte) (ack ∷ [])) none granted).acknowledged in absurd (omega (arith, counts))
+none_fits byte got granted (inr one) =
+    let fits = (subst (IsGranted (data_with byte) (ack ∷ [])) one granted).fits.stream in absurd (omega (arith, fits))
+
 pub begins_ungranted : BeginsUngranted
 begins_ungranted at byte frames within =
     let keeps = within.control 1 refl in
@@ -91,10 +111,88 @@ begins_ungranted at byte frames within =
     let bytes = octets ++ spelled (ack ∷ f ∷ []) in
     let before = e.Dialled 1 at _ ∷ e.Opened 1 ∷ e.Came 1 (spelling none_granted) ∷ [] in
     let last = last_granted octets AreFirst keeps.0 (ack ∷ []) f before 1 (ungranted at byte) refl refl (append-nil bytes) refl keeps.1 in
-    by last.0 last.2 (settings_read last.0 last.1.0 last.1.1)
-  where
-    by : (got : List RawFrame) → IsGranted (data_with byte) (ack ∷ []) got → (got ≡ []) ⊎ (got ≡ none_granted ∷ []) → ⊥
-    by got granted (inl none) =
-        let counts = (subst (IsGranted (data_with byte) (ack ∷ [])) none granted).acknowledged in absurd (omega (arith, counts))
-    by got granted (inr one) =
-        let fits = (subst (IsGranted (data_with byte) (ack ∷ [])) one granted).fits.stream in absurd (omega (arith, fits))
+    none_fits byte last.0 last.2 (settings_read last.0 last.1.0 last.1.1)
+
+-- LINKS TO GATEWAYS: one header stands in front of octets
+
+octets_size : (f : Family) (ip : Ip) → (length (octets_in f ip) ≡ 4) ⊎ (length (octets_in f ip) ≡ 16)
+octets_size Inet (V4 n) = inl refl
+octets_size Inet6 (V4 n) = inr refl
+octets_size Inet (V6 n) = inr refl
+octets_size Inet6 (V6 n) = inr refl
+
+few_octets : (f : Family) (ip : Ip) → length (octets_in f ip) ≤ 16
+few_octets f ip = ⊎_elim (λ is. omega (arith, is)) (λ is. omega (arith, is)) (octets_size f ip)
+
+few_tlvs : (identity : Option Identity) → IfSome identity IsSent → length (texts (identity_tlvs identity)) ≤ 4003
+few_tlvs None may = omega arith
+few_tlvs (Some i) may = omega (arith, may.size, length-append (identity_text i) [])
+
+-- all behind the length field of one that may be written is counted by that field
+body_counted : (from to : Target) (identity : Option Identity) → IfSome identity IsSent
+    → length (body (header_of from to identity)) < 2 ^ 16
+body_counted from to identity may =
+    let h = header_of from to identity in
+    let size : length (body h) ≡ length h.source + (length h.destination + (4 + length (texts h.tlvs))) =
+    omega (arith, length-append {A = ℕ}) in
+    omega (arith, size, few_octets h.family from.ip, few_octets h.family to.ip, few_tlvs identity may)
+
+same_text : (h k : Header) (x y : List ℕ) → length (body h) < 2 ^ 16 → length (body k) < 2 ^ 16
+    → front.spelling h ++ x ≡ front.spelling k ++ y → front.spelling h ≡ front.spelling k
+same_text h k x y h_counted k_counted is =
+    let size = same_size (length (body h)) (length (body k)) h_counted k_counted (ap (λ xs. take 2 (drop 14 xs)) is) in
+    (same_parts (front.spelling h) (front.spelling k) x y (ap (λ n. 16 + n) size) is).0
+
+-- so the header that stands there is that one
+this_header : (from to : Target) (identity : Option Identity) → IfSome identity IsSent → (header x y : List ℕ) → IsHeader header
+    → header ++ x ≡ front_text from to identity ++ y → header ≡ front_text from to identity
+this_header from to identity may header x y (source, destination, other, may_other, text) is =
+    text
+    ∙ same_text (header_of source destination other) (header_of from to identity) x y (body_counted source destination other may_other)
+        (body_counted from to identity may) (ap (λ (bs : List ℕ). bs ++ x) (sym text) ∙ is)
+
+gate_granted : (at from to : Target) (identity : Option Identity) → IfSome identity IsSent → (came : List ℕ) (front : List RawFrame)
+    (f : RawFrame) → has_data f ≡ true → (frames : ℕ → List RawFrame)
+    → Windows (through_gate at came (front_text from to identity) (front ++ f ∷ [])) frames
+    → (got : List RawFrame) × AreFirst got (came ++ []) × IsGranted f front got
+gate_granted at from to identity may came front f some frames within =
+    let header = front_text from to identity in
+    let sent_all = spelled (front ++ f ∷ []) in
+    let bytes = (header ++ octets) ++ sent_all in
+    let before = e.Dialled 1 at _ ∷ e.Opened 1 ∷ e.Came 1 came ∷ [] in
+    let gate = within.gateways 1 refl in
+    let own = gate.0 in
+    let keeps = gate.3 in
+    let went : sent 1 (through_gate at came header (front ++ f ∷ [])) ≡ bytes = append-nil bytes in
+    let is : own ++ (octets ++ spelled gate.2) ≡ header ++ ((octets ++ sent_all) ++ keeps.went.rest) =
+    sym (append_assoc own octets (spelled gate.2)) ∙ keeps.went.is ∙ ap (λ (bs : List ℕ). bs ++ keeps.went.rest) went
+    ∙ ap (λ (bs : List ℕ). bs ++ keeps.went.rest) (append_assoc header octets sent_all)
+    ∙ append_assoc header (octets ++ sent_all) keeps.went.rest in
+    let same = this_header from to identity may own (octets ++ spelled gate.2) ((octets ++ sent_all) ++ keeps.went.rest) gate.1 is in
+    last_granted (header ++ octets) AreFirst gate.2 front f before 1 (through_gate at came header (front ++ f ∷ [])) refl refl went some
+    (subst (λ (bs : List ℕ). KeepsWindows (bs ++ octets) AreFirst gate.2 (through_gate at came header (front ++ f ∷ [])) 1) same keeps)
+
+pub gate_begins_beyond : GateBeginsBeyond
+gate_begins_beyond at payload is from to identity may frames within =
+    let f = data_frame 0 7 payload in
+    let last = gate_granted at from to identity may [] (three payload) f (has_payload payload 7 (omega (arith, is))) frames within in
+    let none = none_joined last.0 last.1.0 last.1.1 in
+    let fits = (subst (IsGranted f (three payload)) none last.2).fits.connection in
+    absurd (omega (arith, is, fits))
+
+pub gate_begins_ungranted : GateBeginsUngranted
+gate_begins_ungranted at byte from to identity may frames within =
+    let last = gate_granted at from to identity may (spelling none_granted) (ack ∷ []) (data_with byte) refl frames within in
+    none_fits byte last.0 last.2 (settings_read last.0 last.1.0 last.1.1)
+
+-- the octets of another protocol are no header: the thirteenth of these isn't 33
+pub gate_unfronted : GateUnfronted
+gate_unfronted at frames within =
+    let gate = within.gateways 1 refl in
+    let text = gate.1.4 in
+    let is = gate.3.went.is in
+    let first : slice_index (gate.0 ++ (octets ++ spelled gate.2)) 0 ≡ slice_index (octets ++ gate.3.went.rest) 0 =
+    ap (λ (bs : List ℕ). slice_index bs 0) (sym (append_assoc gate.0 octets (spelled gate.2)) ∙ is) in
+    let no : 13 ≡ 80 =
+    ap (λ (bs : List ℕ). slice_index (bs ++ (octets ++ spelled gate.2)) 0) (sym text) ∙ first in
+    absurd cc

@@ -1,7 +1,9 @@
 -- On each link to a gateway of a lawful trace DATA begins within what the gateway granted.
 use Rattle.std.proofs.Common.{◌≡◌, ◌⊎◌, inl, inr, ⊎_elim, ℕ, ◌+◌, ◌-◌, ◌<◌, ◌≤◌, Bool, true, cond, fold, List, [], ◌∷◌, ◌++◌, length, refl, ap, sym, ◌∙◌, subst, arith, length-append, length-drop}
+use Rattle.std.proofs.lemmas.Bool.{false≢true}
 use Rattle.std.proofs.lemmas.List.{append-nil, append_assoc, take-append-drop, nil_from_length}
 use Rattle.std.proofs.lemmas.List.Concat.{flat_map-append}
+use Rattle.std.specs.List.{list_any}
 use Rattle.hb_base.specs.declared.door.Why.TheVariants as whys
 use Rattle.hb_conn.specs.Preface.{octets}
 use Rattle.hb_conn.specs.declared.found.Found.TheVariants.{Silent}
@@ -10,10 +12,10 @@ use Rattle.hb_frames.specs.RawFrame.{RawFrame}
 use Rattle.hb_gateway.proofs.Grown.{none_more}
 use Rattle.hb_gateway.proofs.Runs.{Keeps, all_keep}
 use Rattle.hb_gateway.specs.Connections.{front_went, conn_went}
-use Rattle.hb_gateway.specs.Gateway.{Gateway, unborn}
-use Rattle.hb_gateway.specs.Key.{Key, front_of}
+use Rattle.hb_gateway.specs.Gateway.{Gateway, Phase, unborn}
+use Rattle.hb_gateway.specs.Key.{Key, MayBeWritten, front_of}
 use Rattle.hb_gateway.specs.Part as gateway
-use Rattle.hb_gateway.specs.Part.{Part, dialled, link_went, front_header, moves_in, moves_from, moves, left_by, left_of}
+use Rattle.hb_gateway.specs.Part.{Part, dialled, entry, link_went, front_header, moves_in, moves_from, moves, left_by, left_of}
 use Rattle.hb_gateway.specs.Runs as gateway_runs
 use Rattle.hb_gateway.specs.Runs.{IsBirth}
 use Rattle.hb_history.specs.Points.{Point as Moved, frames_got}
@@ -24,11 +26,14 @@ use Rattle.hb_laws.specs.Lawful.{Lawful}
 use Rattle.hb_model.specs.declared.config.NodeConfig.{NodeConfig}
 use Rattle.hb_outgoing.specs.Selected.{has_data}
 use Rattle.hb_outgoing.specs.Waiting.{spelled}
+use Rattle.hb_proxy.proofs.Agreed.{ByOwner, all_agree, told_in}
+use Rattle.hb_proxy.proofs.GateChanges.{GateFits, GateStays, gate_born, gate_part_stays, is_gate_born}
 use Rattle.hb_proxy.proofs.Gates.{gates_run}
-use Rattle.hb_proxy.specs.Owners.{gateway_link, owner}
+use Rattle.hb_proxy.proofs.Look.{Look}
+use Rattle.hb_proxy.specs.Owners.{Owner, gateway_link, owner}
 use Rattle.hb_proxy.specs.Points.{Point, gate_in, gates_of}
 use Rattle.hb_streams.specs.declared.role.Role.TheVariants.{Client}
-use Rattle.hb_world.specs.Trace.{recv, sent}
+use Rattle.hb_world.specs.Trace.{is_birth, recv, sent}
 use Rattle.hb_world.specs.declared.entry.Entry.{Entry}
 use Rattle.hb_world.specs.declared.entry.Entry.TheVariants as e
 use Rattle.hb_headline.specs.Relay.{IsFront}
@@ -89,20 +94,34 @@ header_stays g y more (gateway_runs.goes_on {x = x} {parts = parts} stands p ste
     ∙ header_stays g x parts stands before n bytes early.0 some here)
     (split_last parts p (before ++ w ∷ []) after (sym grown ∙ are ∙ sym (append_assoc before (w ∷ []) after)))
 
--- it is none, or one that is written
-header_is : (g : ℕ) (x : Gateway) (parts : List Part) → gateway_runs.StandsFor g x parts → IsHeader (front_header parts)
-header_is g x parts (gateway_runs.begins is none) = inl (ap front_header none)
-header_is g y more (gateway_runs.goes_on {x = x} {parts = parts} stands p steps grown) =
-    subst (λ (ps : List Part). IsHeader (front_header ps)) (sym grown) (by p steps (header_is g x parts stands))
+born_written : (g : ℕ) (x : Gateway) (z : Entry) (key : Key) → IsBirth g x z key → MayBeWritten key
+born_written g x (e.Dialled k to (whys.Gateway a)) key is = is.3
+born_written g x _ key is = absurd is
+
+-- that of a link that is born is one that is written
+header_is : (g : ℕ) (x : Gateway) (parts : List Part) → gateway_runs.StandsFor g x parts → is_gate_born x.phase ≡ true
+    → IsHeader (front_header parts)
+header_is g x parts (gateway_runs.begins is none) born = absurd (false≢true (ap (λ (y : Gateway). is_gate_born y.phase) (sym is) ∙ born))
+header_is g y more (gateway_runs.goes_on {x = x} {parts = parts} stands p steps grown) born =
+    subst (λ (ps : List Part). IsHeader (front_header ps)) (sym grown) (by p steps (gate_part_stays g x y p steps))
   where
-    by : (q : Part) → gateway_runs.Steps g x q y → IsHeader (front_header parts) → IsHeader (front_header (parts ++ q ∷ []))
-    by (dialled z key) steps was =
+    by : (q : Part) → gateway_runs.Steps g x q y → (list_any is_birth (gateway.entry_in q) ≡ false → GateStays x.phase y.phase)
+        → IsHeader (front_header (parts ++ q ∷ []))
+    by (dialled z key) steps stays =
         let none = ((all_keep g x parts stands).early (born_unborn g x z key steps.0)).header in
         let all : front_header (parts ++ dialled z key ∷ []) ≡ front_of key =
         flat_map-append gateway.front_in parts (dialled z key ∷ [])
         ∙ ap (λ (bs : List ℕ). bs ++ (front_of key ++ [])) none ∙ append-nil (front_of key) in
-        inr (record { ip = key.source; port = 0 }, key.gateway, key.identity, all)
-    by q steps was = subst IsHeader (sym (none_more gateway.front_in parts q refl)) was
+        (record { ip = key.source; port = 0 }, key.gateway, key.identity, born_written g x z key steps.0, all)
+    by (entry z) steps stays =
+        subst IsHeader (sym (none_more gateway.front_in parts (entry z) refl)) (header_is g x parts stands (gate_born g x z steps.0))
+    by q steps stays =
+        subst IsHeader (sym (none_more gateway.front_in parts q refl)) (header_is g x parts stands (stays refl born))
+
+-- a link of which the trace fits what it does is born
+born_fits : (phase : Phase) (v : Look) → GateFits phase v → is_gate_born phase ≡ true
+born_fits unborn v fits = absurd fits
+born_fits _ v fits = refl
 
 -- OF WHAT WENT so much is the header's, and the rest the connection's
 record Sizes (parts : List Part) (x : Gateway) : Type 0 where
@@ -219,11 +238,17 @@ module _ (g : NodeConfig) (trace : List Entry) (h : Lawful g trace) (n : ℕ) (o
             ∙ ap (λ (bs : List ℕ). bs ++ ((b ∷ left) ++ (octets ++ spelled one.stands.begun))) (sym all);
       }
 
+  -- it is born, since it is a link to a gateway
+  born : is_gate_born (h.machine.gates n).phase ≡ true
+  born = born_fits (h.machine.gates n).phase (told_in h.points n)
+      (subst (λ (o : Owner). ByOwner o h.machine n (told_in h.points n)) (owner_is h.points trace (sym h.trace_is) n ∙ own)
+      ((all_agree g h.machine h.points h.run).each n))
+
   pub gate_keeps : (opening : List ℕ) × IsHeader opening × (frames : List RawFrame)
       × KeepsWindows (opening ++ octets) AreFirst frames trace n
   gate_keeps = (
     header,
-    header_is n (h.machine.gates n) parts stands_all,
+    header_is n (h.machine.gates n) parts stands_all born,
     one.stands.begun,
     record {
       went = subst (λ (bs : List ℕ). IsFront bs ((header ++ octets) ++ spelled one.stands.begun)) went_all

@@ -1,15 +1,16 @@
 -- Small traces that don't meet the headline. Link 1 is accepted in them, and link 2 is its upstream, but where the control plane is
 -- dialled first.
-use Rattle.std.specs.Prelude.{◌≡◌, ◌≢◌, ℕ, ◌<◌, List, [], ◌∷◌, ◌++◌, length, map, None, Ok}
+use Rattle.std.specs.Prelude.{◌≡◌, ◌≢◌, ℕ, ◌<◌, List, [], ◌∷◌, ◌++◌, length, map, Option, None, IfSome, Ok}
 use Rattle.hb_base.specs.declared.door.Door.TheVariants as door
 use Rattle.hb_base.specs.declared.door.Why.TheVariants as whys
+use Rattle.hb_base.specs.declared.identity.Identity.{Identity}
 use Rattle.hb_base.specs.declared.peer.Peer.{Peer}
 use Rattle.hb_base.specs.declared.target.Target.{Target}
 use Rattle.hb_disco.specs.Response.{response_of}
 use Rattle.hb_disco.specs.declared.response.Response.{Response}
 use Rattle.hb_conn.specs.Preface.{octets}
 use Rattle.hb_frames.specs.RawFrame.{RawFrame, spelling}
-use Rattle.hb_front.specs.Written.{front_text}
+use Rattle.hb_front.specs.Written.{front_text, IsSent}
 use Rattle.hb_grpc.specs.Framed.{framed_of}
 use Rattle.hb_held.specs.Held.{Resources}
 use Rattle.hb_held.specs.Outcome.{after_response}
@@ -166,6 +167,27 @@ ungranted at byte =
 
 abbrev pub BeginsUngranted : Type 0
 BeginsUngranted = (at : Target) (byte : ℕ) → NotWithin (ungranted at byte)
+
+-- so it is of a link to a gateway, behind its front header, whichever that is
+abbrev pub through_gate : Target → (came header : List ℕ) → List RawFrame → List Entry
+through_gate at came header frames =
+    e.Dialled 1 at (whys.Gateway 2) ∷ e.Opened 1 ∷ e.Came 1 came ∷ e.Went 1 ((header ++ octets) ++ spelled frames) ∷ []
+
+abbrev pub BehindHeaders : (List ℕ → Type 0) → Type 0
+BehindHeaders P =
+    (from to : Target) (identity : Option Identity) → IfSome identity IsSent → P (front_text from to identity)
+
+abbrev pub GateBeginsBeyond : Type 0
+GateBeginsBeyond = (at : Target) (payload : List ℕ) → length payload ≡ 16384
+    → BehindHeaders (λ header. NotWithin (through_gate at [] header (three payload ++ data_frame 0 7 payload ∷ [])))
+
+abbrev pub GateBeginsUngranted : Type 0
+GateBeginsUngranted = (at : Target) (byte : ℕ)
+    → BehindHeaders (λ header. NotWithin (through_gate at (spelling none_granted) header (ack ∷ data_with byte ∷ [])))
+
+-- and octets go on it that are no header
+abbrev pub GateUnfronted : Type 0
+GateUnfronted = (at : Target) → NotWithin (e.Dialled 1 at (whys.Gateway 2) ∷ e.Opened 1 ∷ e.Went 1 octets ∷ [])
 
 -- BUFFERS: more waits than a ring has room for
 abbrev pub Overruns : List Entry → Type 0

@@ -1,12 +1,12 @@
 -- No DATA frame begins beyond what the peer granted (RFC 9113 sections 4.2, 6.5.3 and 6.9): said of a trace.
-use Rattle.std.specs.Prelude.{◌≡◌, ◌⊎◌, ℕ, ◌+◌, ◌≤◌, ◌<◌, true, List, [], ◌∷◌, ◌++◌, length, filter, drop, Option}
+use Rattle.std.specs.Prelude.{◌≡◌, ◌⊎◌, ℕ, ◌+◌, ◌≤◌, ◌<◌, true, List, [], ◌∷◌, ◌++◌, length, filter, drop, Option, IfSome}
 use Rattle.hb_base.specs.declared.identity.Identity.{Identity}
 use Rattle.hb_base.specs.declared.target.Target.{Target}
 use Rattle.hb_conn.specs.Preface.{octets}
 use Rattle.hb_frames.specs.Frames.{Joins}
 use Rattle.hb_frames.specs.RawFrame.{RawFrame}
 use Rattle.hb_front.specs.Reading.{Seen, IsAnswer, Whole}
-use Rattle.hb_front.specs.Written.{front_text}
+use Rattle.hb_front.specs.Written.{front_text, IsSent}
 use Rattle.hb_history.specs.Fits.{sets_values, acknowledges, FitsWindows}
 use Rattle.hb_model.specs.Calls.{IsControl}
 use Rattle.hb_outgoing.specs.Selected.{has_data}
@@ -25,10 +25,10 @@ AreFirst got came = (rest : List ℕ) × Joins got rest came
 abbrev pub AreClients : List RawFrame → List ℕ → Type 0
 AreClients got came = (got ≡ []) ⊎ ((seen : Seen) × IsAnswer came (Whole seen) × AreFirst got (drop 24 (drop seen.length came)))
 
--- a front header that is written (PROXY protocol, version 2), or none
+-- a front header that is written (PROXY protocol, version 2): of two ends, and of an identity that may be written, or of none
 abbrev pub IsHeader : List ℕ → Type 0
 IsHeader header =
-    (header ≡ []) ⊎ ((source destination : Target) × (identity : Option Identity) × (header ≡ front_text source destination identity))
+    (source destination : Target) × (identity : Option Identity) × IfSome identity IsSent × (header ≡ front_text source destination identity)
 
 -- behind these frames a frame is within what these of the peer grant, among which are as many SETTINGS as were acknowledged
 pub record IsGranted (f : RawFrame) (front got : List RawFrame) : Type 0 where

@@ -6,7 +6,8 @@ ghost use Rattle.hb_headline.specs.Refused.{SendsUnfronted, TunnelsUnfronted, In
 ghost use Rattle.hb_headline.specs.Refused.{SendsUnasked, DialsTwice, DialsElsewhere, AdmitsElsewhere, AdmitsUntold, AdmitsForged};
 ghost use Rattle.hb_headline.specs.Refused.{DialsUntold, DialsPlainUntold};
 ghost use Rattle.hb_headline.specs.Refused.{SendsUnborn, CutsUnadmitted, KeepsUnadmitted, RelaysUntold, KeepsPlain, KeepsRevoked};
-ghost use Rattle.hb_headline.specs.Refused.{BeginsLarge, BeginsBeyond, BeginsUngranted, KeepsMoreUp, KeepsMoreDown, TunnelKeepsMore};
+ghost use Rattle.hb_headline.specs.Refused.{BeginsLarge, BeginsBeyond, BeginsUngranted, GateBeginsBeyond, GateBeginsUngranted};
+ghost use Rattle.hb_headline.specs.Refused.{GateUnfronted, KeepsMoreUp, KeepsMoreDown, TunnelKeepsMore};
 ghost use Rattle.hb_headline.specs.Relay.{BeganIsNotOne};
 
 /// Each lawful trace meets the headline.
@@ -16,7 +17,7 @@ pub fn headline_holds()
 
 /// Small traces don't meet it: bytes that go to a workload without a header, or that it didn't send, or of a stream without one; a second
 /// upstream of a stream; peers who aren't admitted where they go, by nothing that came, in frames that are cut, or no
-/// longer; DATA beyond what the peer granted; octets that wait beyond a ring.
+/// longer; DATA beyond what the peer granted; octets in the place of a front header; octets that wait beyond a ring.
 pub fn small_traces_are_refused()
     ensures unfronted { SendsUnfronted }
     ensures tunnel { TunnelsUnfronted }
@@ -40,6 +41,9 @@ pub fn small_traces_are_refused()
     ensures large { BeginsLarge }
     ensures beyond { BeginsBeyond }
     ensures ungranted { BeginsUngranted }
+    ensures gate_beyond { GateBeginsBeyond }
+    ensures gate_ungranted { GateBeginsUngranted }
+    ensures gate_unfronted { GateUnfronted }
     ensures waiting_up { KeepsMoreUp }
     ensures waiting_down { KeepsMoreDown }
     ensures waiting_tunnel { TunnelKeepsMore }

@@ -1,2 +1,1 @@
 mod Denying
-pub mod Hearing

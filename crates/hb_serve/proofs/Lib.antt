@@ -1,3 +1,4 @@
 mod Along
 pub mod Asking
+mod Hearing
 mod Served
