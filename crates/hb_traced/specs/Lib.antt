@@ -1,0 +1,5 @@
+pub mod Answers
+pub mod Call
+pub mod Examples
+pub mod Known
+pub mod Traced
