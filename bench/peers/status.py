@@ -191,6 +191,29 @@ def lines_that_are_left_out(room):
 
 
 @case
+def whose_tunnel_it_was(room):
+    """Behind the end of a tunnel since whose verdict more than 256 notes came stands a line with its peer, its identity and its target; behind
+    an end that is nearer none does."""
+    room.start()
+    peer, up = room.peer(), room.upstream(echo)
+    first = peer.tunnel(up.port)
+    for _ in range(128):
+        stream = peer.tunnel(up.port)
+        peer.send(stream, b"", end=True)
+        peer.pump(lambda: stream in peer.ended, "END_STREAM")
+    second = peer.tunnel(up.port)
+    for stream in (first, second):
+        peer.send(stream, b"", end=True)
+        peer.pump(lambda: stream in peer.ended, "END_STREAM")
+    until("both ends", lambda: len([line for line in room.proxy.told() if line.startswith("end ")]) == 130)
+    lines = [line for line in room.proxy.told() if line.startswith(("end ", "was "))]
+    at = f"2/{first}"
+    whose = f"was {at} peer={HERE} identity={CALLER.removeprefix('spiffe://')} target={HERE}:{up.port}"
+    wanted("the last lines", lines[-3:], [f"end {at} done up 0 down 0", whose, f"end 2/{second} done up 0 down 0"])
+    wanted("lines of whose it was", len([line for line in lines if line.startswith("was ")]), 1)
+
+
+@case
 def other_questions(room):
     """404 for another path, 405 for another method, 400 for what is no request, 431 and 413 beyond 4,096 bytes of a head or a body."""
     port = told(room)

@@ -7,13 +7,14 @@ use Rattle.hb_base.specs.declared.door.Door.TheVariants.{Inbound}
 use Rattle.hb_base.specs.declared.ip.Ip.TheVariants.{V4}
 use Rattle.hb_base.specs.declared.target.Target.{Target}
 use Rattle.hb_base.specs.TargetText.{target_text}
-use Rattle.hb_world.specs.declared.world.Born.TheVariants.{Failed, NoMemory}
+use Rattle.hb_base.specs.declared.door.Why.TheVariants as why
+use Rattle.hb_world.specs.declared.world.Born.TheVariants.{New, Failed, NoMemory}
 use Rattle.hb_log.specs.Fact.{fact_line}
-use Rattle.hb_log.specs.Known.{knows_nothing, dial_fact, after_dial, after_open, kind_fact, door_counted, after_close, tick_fact}
+use Rattle.hb_log.specs.Known.{knows_nothing, party_fact, way_fact, dial_fact, after_dial, after_open, kind_fact, door_counted, after_close, tick_fact}
 use Rattle.hb_log.specs.Known.{after_tick}
 use Rattle.hb_log.specs.Told.{Tells}
 use Rattle.hb_log.specs.declared.fact.Fact.{Fact}
-use Rattle.hb_log.specs.declared.fact.Fact.TheVariants.{Listens, Dialled, DialFailed, Opened, Ended, Closed, More}
+use Rattle.hb_log.specs.declared.fact.Fact.TheVariants.{Listens, Dialled, DialFailed, Opened, Ended, Way, Closed, More}
 use Rattle.hb_log.specs.declared.fact.Kind.TheVariants.{To, At}
 use Rattle.hb_log.specs.declared.fact.Party.TheVariants.{Control, Gateway}
 use Rattle.hb_log.specs.declared.known.Known.{Known}
@@ -43,6 +44,9 @@ LineOfEnd = IsLine (Ended Gateway 9 GoneAway) (codes "gateway link=9 closed=\"go
 abbrev pub LineOfWord : Type 0
 LineOfWord = IsLine (Ended Control 1 Broken) (codes "control link=1 closed=broken\n")
 
+abbrev pub LineOfWay : Type 0
+LineOfWay = (to : Target) → IsLine (Way 4 to) (codes "way 4/0 direct=" ++ target_text to ++ codes "\n")
+
 abbrev pub LineOfClose : Type 0
 LineOfClose = IsLine (Closed 7 Inbound (FrontFault 3)) (codes "closed link=7 door=inbound cause=\"front fault 3\"\n")
 
@@ -64,7 +68,7 @@ abbrev pub here : Target
 here = record { ip = V4 2130706433; port = 15008 }
 
 abbrev pub FailsWith : ℕ → Option Fact → Type 0
-FailsWith attempts fact = dial_fact here (Some Control) Failed (tried attempts) ≡ fact
+FailsWith attempts fact = party_fact here (Some Control) Failed (tried attempts) ≡ fact
 
 abbrev pub FirstIsTold : Type 0
 FirstIsTold = FailsWith 0 (Some (DialFailed Control here 1))
@@ -97,6 +101,25 @@ GatewayIsNoAttempt = after_dial (Some Gateway) Failed (tried 7) ≡ tried 7
 
 abbrev pub LackIsNoAttempt : Type 0
 LackIsNoAttempt = after_dial (Some Control) NoMemory (tried 7) ≡ tried 7
+
+-- WAYS
+
+-- the way of outbound link 4 is told where it goes straight, also where no link is begun
+abbrev pub WayIsTold : Type 0
+WayIsTold = (to : Target) (k : Known) → dial_fact to (why.Direct 4) (New 5) k ≡ Some (Way 4 to)
+
+abbrev pub FailedWayIsTold : Type 0
+FailedWayIsTold = (to : Target) (k : Known) → dial_fact to (why.Direct 4) Failed k ≡ Some (Way 4 to)
+
+-- it has the number of the link that is begun; it is told without memory for one; that of a link of the plain door is told
+abbrev pub WayOfOther : Type 0
+WayOfOther = (to : Target) (k : Known) → dial_fact to (why.Direct 4) (New 5) k ≡ Some (Way 5 to) → ⊥
+
+abbrev pub WayOfNone : Type 0
+WayOfNone = (to : Target) (k : Known) → dial_fact to (why.Direct 4) NoMemory k ≡ Some (Way 4 to) → ⊥
+
+abbrev pub PlainWay : Type 0
+PlainWay = (to : Target) (k : Known) → dial_fact to (why.Plain 4) (New 5) k ≡ Some (Way 4 to) → ⊥
 
 -- CLOSED LINKS OF DOORS
 

@@ -6,7 +6,7 @@ use Rattle.hb_base.specs.declared.door.Door.{Door}
 use Rattle.hb_script.specs.EntryText.{cause_text}
 use Rattle.hb_script.specs.Spelling.{door_word}
 use Rattle.hb_log.specs.declared.fact.Fact.{Fact}
-use Rattle.hb_log.specs.declared.fact.Fact.TheVariants.{Listens, Dialled, DialFailed, Opened, Ended, Closed, More}
+use Rattle.hb_log.specs.declared.fact.Fact.TheVariants.{Listens, Dialled, DialFailed, Opened, Ended, Way, Closed, More}
 use Rattle.hb_log.specs.declared.fact.Party.{Party}
 use Rattle.hb_log.specs.declared.fact.Party.TheVariants.{Control, Gateway}
 
@@ -39,6 +39,7 @@ fact_line (DialFailed party to attempt) =
 fact_line (Opened party link) = party_word party ++ codes " link=" ++ decimal link ++ codes " open\n"
 fact_line (Ended party link cause) =
     party_word party ++ codes " link=" ++ decimal link ++ codes " closed=" ++ value_text (cause_text cause) ++ codes "\n"
+fact_line (Way link to) = codes "way " ++ decimal link ++ codes "/0 direct=" ++ target_text to ++ codes "\n"
 fact_line (Closed link door cause) =
     codes "closed " ++ link_of_door link door ++ codes " cause=" ++ value_text (cause_text cause) ++ codes "\n"
 fact_line (More count) = codes "closed more=" ++ decimal count ++ codes "\n"

@@ -15,7 +15,7 @@ use Rattle.hb_world.specs.declared.world.Born.TheVariants as born
 use Rattle.hb_world.specs.declared.world.Finished.{Finished}
 use Rattle.hb_world.specs.declared.world.Finished.TheVariants as finished
 use Rattle.hb_log.specs.declared.fact.Fact.{Fact}
-use Rattle.hb_log.specs.declared.fact.Fact.TheVariants.{Listens, Dialled, DialFailed, Opened, Ended, Closed, More}
+use Rattle.hb_log.specs.declared.fact.Fact.TheVariants.{Listens, Dialled, DialFailed, Opened, Ended, Way, Closed, More}
 use Rattle.hb_log.specs.declared.fact.Kind.{Kind}
 use Rattle.hb_log.specs.declared.fact.Kind.TheVariants.{To, At}
 use Rattle.hb_log.specs.declared.fact.Party.{Party}
@@ -76,12 +76,22 @@ abbrev pub attempt_of : Party → Known → ℕ
 attempt_of Control k = k.attempts
 attempt_of Gateway k = 1
 
-abbrev pub dial_fact : Target → Option Party → Born → Known → Option Fact
-dial_fact to (Some party) (born.New link) k =
+abbrev pub party_fact : Target → Option Party → Born → Known → Option Fact
+party_fact to (Some party) (born.New link) k =
     if_told (tells_attempt (attempt_of party (attempted party k))) (Dialled party link to (attempt_of party (attempted party k)))
-dial_fact to (Some party) born.Failed k =
+party_fact to (Some party) born.Failed k =
     if_told (tells_attempt (attempt_of party (attempted party k))) (DialFailed party to (attempt_of party (attempted party k)))
-dial_fact to _ _ k = None
+party_fact to _ _ k = None
+
+-- the way of an outbound link that goes straight, whether or not a link is begun
+abbrev pub way_fact : ℕ → Target → Born → Option Fact
+way_fact link to (born.New up) = Some (Way link to)
+way_fact link to born.Failed = Some (Way link to)
+way_fact link to _ = None
+
+abbrev pub dial_fact : Target → Why → Born → Known → Option Fact
+dial_fact to (why.Direct link) born k = way_fact link to born
+dial_fact to why born k = party_fact to (party_of why) born k
 
 abbrev pub after_dial : Option Party → Born → Known → Known
 after_dial (Some party) (born.New link) k = with_link link (To party) (attempted party k)

@@ -49,6 +49,11 @@ pub(crate) enum Fact {
         link: u64,
         cause: Cause,
     },
+    /// An outbound link goes straight to this address.
+    Way {
+        link: u64,
+        to: Target,
+    },
     /// A link of a door is closed.
     Closed {
         link: u64,

@@ -3,7 +3,7 @@
 ghost use Rattle.std.specs.Prelude.{◌≡◌, OnOk, OnErr, IfOk, Some};
 ghost use Rattle.std.specs.FinMap as map;
 ghost use Rattle.hb_log.specs.Known.{attempted, attempt_of, tells_attempt, is_usual, kind_fact, door_counted};
-ghost use Rattle.hb_log.specs.Known.{MissesLink, after_accept, dial_fact, party_of, after_dial, finish_fact, after_finish};
+ghost use Rattle.hb_log.specs.Known.{MissesLink, after_accept, party_fact, way_fact, dial_fact, party_of, after_dial, finish_fact, after_finish};
 ghost use Rattle.hb_log.specs.Known.{close_fact, after_close, tick_fact, after_tick, knows_nothing};
 
 use crate::fact::{Fact, Kind, Party};
@@ -34,14 +34,13 @@ fn tells_attempt(attempt: u64) -> bool
     attempt <= 1 || attempt == 10
 }
 
-/// To whom a link leads that is dialled so, where the log tells it.
-fn party_of(why: Why) -> Option<Party>
-    ensures { result ≡ party_of why }
+/// The way of an outbound link that goes straight. `None` where no link could be dialled.
+fn way(link: u64, to: Target, born: Born) -> Option<Fact>
+    ensures { result ≡ way_fact link to born }
 {
-    match why {
-        Why::Discovery => Some(Party::Control),
-        Why::Gateway { .. } => Some(Party::Gateway),
-        Why::Upstream { .. } | Why::Plain { .. } | Why::Direct { .. } => None,
+    match born {
+        Born::New(_) | Born::Failed => Some(Fact::Way { link, to }),
+        Born::Balked | Born::NoMemory => None,
     }
 }
 
@@ -106,17 +105,14 @@ impl Known {
         self.attempt_of(party)
     }
 
-    /// A link is dialled, or none is. `None` where nothing is told of it.
+    /// A link to a party is dialled, or none is. `None` where nothing is told of it.
     ///
     /// Errors: `NoMemory`, and then the attempt is counted, and the link isn't known.
-    pub fn dial(&mut self, to: Target, why: Why, born: Born) -> Result<Option<Fact>, NoMemory>
-        ensures fact { IfOk result (λ fact. fact ≡ dial_fact to (party_of why) born self.old) }
-        ensures ok { OnOk result (self.new ≡ after_dial (party_of why) born self.old) }
-        ensures err { OnErr result (MissesLink born self.old (after_dial (party_of why) born self.old) self.new) }
+    fn dial_party(&mut self, to: Target, party: Party, born: Born) -> Result<Option<Fact>, NoMemory>
+        ensures fact { IfOk result (λ fact. fact ≡ party_fact to (Some party) born self.old) }
+        ensures ok { OnOk result (self.new ≡ after_dial (Some party) born self.old) }
+        ensures err { OnErr result (MissesLink born self.old (after_dial (Some party) born self.old) self.new) }
     {
-        let Some(party) = party_of(why) else {
-            return Ok(None);
-        };
         match born {
             Born::New(link) => {
                 let attempt = self.attempt(party);
@@ -134,6 +130,22 @@ impl Known {
                 Ok(tells_attempt(attempt).then_some(Fact::DialFailed { party, to, attempt }))
             }
             Born::Balked | Born::NoMemory => Ok(None),
+        }
+    }
+
+    /// A link is dialled, or none is. `None` where nothing is told of it.
+    ///
+    /// Errors: `NoMemory`, and then the attempt is counted, and the link isn't known.
+    pub fn dial(&mut self, to: Target, why: Why, born: Born) -> Result<Option<Fact>, NoMemory>
+        ensures fact { IfOk result (λ fact. fact ≡ dial_fact to why born self.old) }
+        ensures ok { OnOk result (self.new ≡ after_dial (party_of why) born self.old) }
+        ensures err { OnErr result (MissesLink born self.old (after_dial (party_of why) born self.old) self.new) }
+    {
+        match why {
+            Why::Discovery => self.dial_party(to, Party::Control, born),
+            Why::Gateway { .. } => self.dial_party(to, Party::Gateway, born),
+            Why::Direct { link } => Ok(way(link, to, born)),
+            Why::Upstream { .. } | Why::Plain { .. } => Ok(None),
         }
     }
 

@@ -1,9 +1,10 @@
 //! Small examples of what is told to a log, right and wrong. Each is the contract of a function that does nothing.
 
-ghost use Rattle.hb_log.specs.Examples.{LineOfDoor, LineOfDial, LineOfFifth, LineOfOpen, LineOfEnd, LineOfWord, LineOfClose};
+ghost use Rattle.hb_log.specs.Examples.{LineOfDoor, LineOfDial, LineOfFifth, LineOfOpen, LineOfEnd, LineOfWord, LineOfWay, LineOfClose};
 ghost use Rattle.hb_log.specs.Examples.{LineOfMore, PlainCause};
 ghost use Rattle.hb_log.specs.Examples.{FirstIsTold, SecondIsNot, TenthIsTold, LaterIsNot, SecondIsTold, TenthIsNot, TenthIsFirst};
 ghost use Rattle.hb_log.specs.Examples.{OpenIsFirst, GatewayIsNoAttempt, LackIsNoAttempt};
+ghost use Rattle.hb_log.specs.Examples.{WayIsTold, FailedWayIsTold, WayOfOther, WayOfNone, PlainWay};
 ghost use Rattle.hb_log.specs.Examples.{FaultIsTold, DoneIsNot, MostIsNot, OtherIsNot, FaultIsNot, MostIsTold, MoreIsCounted};
 ghost use Rattle.hb_log.specs.Examples.{LinkIsForgotten};
 ghost use Rattle.hb_log.specs.Examples.{TickTells, TickIsQuiet, TickBegins};
@@ -18,6 +19,7 @@ pub fn facts_have_these_lines()
     ensures open { LineOfOpen }
     ensures end { LineOfEnd }
     ensures word { LineOfWord }
+    ensures way { LineOfWay }
     ensures close { LineOfClose }
     ensures more { LineOfMore }
     ensures plain { PlainCause }
@@ -39,6 +41,15 @@ pub fn attempts_are_counted_since_a_link_was_open()
     ensures open { OpenIsFirst }
     ensures gateway { GatewayIsNoAttempt }
     ensures lack { LackIsNoAttempt }
+{}
+
+/// The way of an outbound link that goes straight is told, under its own number, where one was dialled; no other link has one.
+pub fn ways_are_told()
+    ensures told { WayIsTold }
+    ensures failed { FailedWayIsTold }
+    ensures other { WayOfOther }
+    ensures none { WayOfNone }
+    ensures plain { PlainWay }
 {}
 
 /// A link of a door is told where it is closed for a fault, up to the sixty-fourth between two ticks.

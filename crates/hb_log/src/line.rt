@@ -2,7 +2,7 @@
 
 ghost use Rattle.std.specs.Prelude.{◌≡◌, ◌++◌, string_bytes, IfOk, OnOk};
 ghost use Rattle.hb_log.specs.Fact.{party_word, has_space, value_text, again_text, link_of_door, fact_line};
-ghost use Rattle.hb_log.specs.declared.fact.Fact.TheVariants.{Listens, Dialled, DialFailed, Ended, Closed};
+ghost use Rattle.hb_log.specs.declared.fact.Fact.TheVariants.{Listens, Dialled, DialFailed, Ended, Way, Closed};
 ghost use Rattle.hb_script.specs.EntryText.{cause_text};
 
 use crate::fact::{Fact, Party};
@@ -113,6 +113,14 @@ fn add_ended(
     line.push_str("\n")
 }
 
+fn add_way(link: u64, to: Target, line: &mut String) -> Result<(), NoMemory>
+    ensures { OnOk result (string_bytes line.new ≡ string_bytes line.old ++ fact_line (Way link to)) }
+{
+    write!(line, "way {link}/0 direct=")?;
+    add_target(to, line)?;
+    line.push_str("\n")
+}
+
 /// Appends a link of a door.
 fn add_link_of_door(link: u64, door: Door, line: &mut String) -> Result<(), NoMemory>
     ensures { OnOk result (string_bytes line.new ≡ string_bytes line.old ++ link_of_door link door) }
@@ -155,6 +163,7 @@ fn add_fact(alloc: Global, fact: Fact, line: &mut String) -> Result<(), NoMemory
             write!(line, "{word} link={link} open\n")
         }
         Fact::Ended { party, link, cause } => add_ended(alloc, party, link, cause, line),
+        Fact::Way { link, to } => add_way(link, to, line),
         Fact::Closed { link, door, cause } => add_closed(alloc, link, door, cause, line),
         Fact::More { count } => write!(line, "closed more={count}\n"),
     }

@@ -11,4 +11,8 @@ pub trait Log {
     /// Takes a line, with its newline.
     fn line(&mut self, line: &str)
         ensures { Appends (handed self.old) (handed self.new) line.now };
+
+    /// Takes a line of a tunnel, with its newline, which stands beside those of notes.
+    fn beside(&mut self, line: &str)
+        ensures { Appends (handed self.old) (handed self.new) line.now };
 }

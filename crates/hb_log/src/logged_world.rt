@@ -98,7 +98,7 @@ impl<W: World, L: Log> World for LoggedWorld<W, L> {
         ensures counts { CountsUp (W.seen self.old.world).birth_faults (W.seen self.new.world).birth_faults (birth_failed result) }
         ensures stays { StaysButBirths (W.seen self.old.world) (W.seen self.new.world) }
         ensures told { TellsBirth L.handed self.old.teller self.new.teller (after_dial (party_of why) result self.old.teller.known)
-            (dial_fact to (party_of why) result self.old.teller.known) result }
+            (dial_fact to why result self.old.teller.known) result }
     {
         let born = self.world.dial(to, why);
         self.teller.dialled(to, why, born);

@@ -1,6 +1,7 @@
 //! What hands lines to a log.
 
 ghost use Rattle.std.specs.Prelude.{◌≡◌, None};
+ghost use Rattle.std.specs.Io.KnownBytes.{Appends};
 ghost use Rattle.hb_log.specs.Known.{listen_fact, after_accept, dial_fact, party_of, after_dial, finish_fact, after_finish};
 ghost use Rattle.hb_log.specs.Known.{close_fact, after_close, tick_fact, after_tick, knows_nothing};
 ghost use Rattle.hb_log.specs.Told.{Tells, TellsBirth};
@@ -52,6 +53,18 @@ impl<L: Log> Teller<L> {
         self.lacks
     }
 
+    /// Hands a line on: that of a way beside those of notes.
+    fn hand(&mut self, fact: Fact, line: &str)
+        ensures handed { Appends (L.handed self.old.log) (L.handed self.new.log) line.now }
+        ensures known { self.new.known ≡ self.old.known }
+        ensures lacks { self.new.lacks ≡ self.old.lacks }
+    {
+        match fact {
+            Fact::Way { .. } => self.log.beside(line),
+            _ => self.log.line(line),
+        }
+    }
+
     /// Tells a fact.
     fn tell(&mut self, fact: Option<Fact>)
         ensures { Tells L.handed self.old self.new self.old.known fact }
@@ -60,7 +73,7 @@ impl<L: Log> Teller<L> {
             return;
         };
         match line_of(self.alloc, fact) {
-            Ok(line) => self.log.line(line.as_str()),
+            Ok(line) => self.hand(fact, line.as_str()),
             Err(_) => self.lacks = self.lacks.saturating_add(1),
         }
     }
@@ -86,7 +99,7 @@ impl<L: Log> Teller<L> {
     /// A link is dialled, or none is.
     pub fn dialled(&mut self, to: Target, why: Why, born: Born)
         ensures { TellsBirth L.handed self.old self.new (after_dial (party_of why) born self.old.known)
-            (dial_fact to (party_of why) born self.old.known) born }
+            (dial_fact to why born self.old.known) born }
     {
         match self.known.dial(to, why, born) {
             Ok(fact) => self.tell(fact),

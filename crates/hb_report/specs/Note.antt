@@ -4,6 +4,7 @@ use Rattle.std.specs.Option.{option_map}
 use Rattle.hb_base.specs.declared.note.Note.{Note}
 use Rattle.hb_base.specs.declared.note.Note.TheVariants.{Verdict, End}
 use Rattle.hb_base.specs.declared.peer.Peer.{Peer}
+use Rattle.hb_base.specs.declared.target.Target.{Target}
 use Rattle.hb_base.specs.IdentityText.{principal_of}
 use Rattle.hb_base.specs.IpText.{ip_text}
 use Rattle.hb_base.specs.TargetText.{target_text}
@@ -31,3 +32,9 @@ note_line (Verdict link stream status peer target) =
 note_line (End link stream cause up down) =
     codes "end " ++ place_text link stream ++ codes " " ++ cause_text cause ++ codes " up " ++ decimal up ++ codes " down " ++ decimal down
     ++ codes "\n"
+
+-- the line of whose tunnel it was that ended, and whereto it led, with its newline
+abbrev pub was_line : ℕ → ℕ → Peer → Option Target → List ℕ
+was_line link stream peer target =
+    codes "was " ++ place_text link stream ++ codes " peer=" ++ ip_text peer.ip ++ codes " identity="
+    ++ or_dash (option_map principal_of peer.identity) ++ codes " target=" ++ or_dash (option_map target_text target) ++ codes "\n"

@@ -9,6 +9,6 @@ mod tallies;
 mod total;
 
 pub use flags::Flags;
-pub use note::{add_note, add_target};
+pub use note::{add_note, add_target, add_was};
 pub use report::put_report;
 pub use total::put_total;

@@ -8,7 +8,7 @@ ghost use Rattle.hb_base.specs.IdentityText.{principal_of};
 ghost use Rattle.hb_base.specs.IpText.{ip_text};
 ghost use Rattle.hb_base.specs.TargetText.{target_text};
 ghost use Rattle.hb_script.specs.EntryText.{cause_text};
-ghost use Rattle.hb_report.specs.Note.{or_dash, peer_text, place_text, note_line};
+ghost use Rattle.hb_report.specs.Note.{or_dash, peer_text, place_text, note_line, was_line};
 
 use hb_base::{Cause, Identity, Ip, NoMemory, Note, Peer, Target, Text};
 use std::alloc::Global;
@@ -81,15 +81,21 @@ fn add_principal(identity: &Identity, line: &mut String) -> Result<(), NoMemory>
     add_text(&identity.service_account, line)
 }
 
+fn add_principal_or_dash(identity: &Option<Identity>, line: &mut String) -> Result<(), NoMemory>
+    ensures { OnOk result (string_bytes line.new ≡ string_bytes line.old ++ or_dash (option_map principal_of identity.now)) }
+{
+    match identity {
+        Some(identity) => add_principal(identity, line),
+        None => line.push_str("-"),
+    }
+}
+
 fn add_peer(peer: &Peer, line: &mut String) -> Result<(), NoMemory>
     ensures { OnOk result (string_bytes line.new ≡ string_bytes line.old ++ peer_text peer.now) }
 {
     add_ip(peer.ip, line)?;
     line.push_str(" ")?;
-    match &peer.identity {
-        Some(identity) => add_principal(identity, line),
-        None => line.push_str("-"),
-    }
+    add_principal_or_dash(&peer.identity, line)
 }
 
 fn add_cause(cause: &Cause, line: &mut String) -> Result<(), NoMemory>
@@ -157,6 +163,27 @@ pub fn add_note(note: &Note, line: &mut String) -> Result<(), NoMemory>
             down,
         } => add_end((*link, *stream), cause, *up, *down, line),
     }
+}
+
+/// Appends the line that tells of a tunnel that ended whose it was, and whereto it led, with its newline.
+///
+/// Errors: `NoMemory`, and then a part of the line may be appended.
+pub fn add_was(
+    link: u64,
+    stream: u32,
+    peer: &Peer,
+    target: Option<Target>,
+    line: &mut String,
+) -> Result<(), NoMemory>
+    ensures { OnOk result (string_bytes line.new ≡ string_bytes line.old ++ was_line link stream peer.now target) }
+{
+    write!(line, "was {link}/{stream} peer=")?;
+    add_ip(peer.ip, line)?;
+    line.push_str(" identity=")?;
+    add_principal_or_dash(&peer.identity, line)?;
+    line.push_str(" target=")?;
+    add_target_or_dash(target, line)?;
+    line.push_str("\n")
 }
 
 /// Appends a line for each note, in order.

@@ -37,9 +37,10 @@ wait=woke, dial gateway=failed gateway dial=10.0.0.7:8080 failed|, dial gateway=
 dial gateway=1 gateway link=1 dialled=10.0.0.7:8080|, finish 1=opened gateway link=1 open|, \
 dial=2 control link=2 dialled=10.0.0.7:8080|, close 1 gone away= gateway link=1 closed=\"gone away\"|, \
 close 2 stopped= control link=2 closed=stopped|, close 2 stopped=
-no link of a tunnel is told; \
+no link of a tunnel is told, but the way of an outbound one that goes straight; \
 {'open':1}|{'refuse':2}|{'nodial':4}|{'wake':true}|{'wake':true}; \
-dial upstream=1, dial plain=2, dial direct=3, wait=woke 1 2, finish 1=opened, finish 2=failed, dial upstream=failed, \
+dial upstream=1, dial plain=2, dial direct=3 way 1/0 direct=10.0.0.7:8080|, wait=woke 1 2, finish 1=opened, finish 2=failed, \
+dial upstream=failed, \
 close 1 broken=, close 2 broken=, close 3 conn fault 6=
 a link of a door is told where it is closed for a fault, and once; \
 {'accept':'inbound'}|{'accept':'inbound'}|{'accept':'plain'}|{'accept':'outbound'}|{'accept':'inbound'}|{'wake':true}; \
@@ -61,6 +62,10 @@ impl Log for KeptLines {
     ghost handed = { λ l. None };
 
     fn line(&mut self, line: &str) {
+        put(&mut self.text, line);
+    }
+
+    fn beside(&mut self, line: &str) {
         put(&mut self.text, line);
     }
 }

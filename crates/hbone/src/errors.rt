@@ -1,9 +1,9 @@
 //! Standard error: the lines that wait for it, and what stands behind them.
 
-use crate::counts::Counts;
 use hb_base::{Put, Sink, StdSink};
 use hb_line_audit::{Polled, SharedAudit};
 use hb_mio::Log;
+use hb_status::Counts;
 use libc::net::{POLLERR, POLLHUP, POLLNVAL, POLLOUT, poll};
 use libc::types::pollfd;
 use std::alloc::Global;
@@ -72,8 +72,9 @@ impl<K: Sink> Polled for StandardError<K> {
 pub(crate) struct ErrorLog<K: Drop> {
     pub lines: SharedAudit<K>,
     pub counts: Option<Arc<Counts, Global>>,
-    /// Whether what is logged around the world is left out.
+    /// Whether what is logged around the world is left out, beside what stands beside lines of notes; and whether that is.
     pub quiet: bool,
+    pub no_ways: bool,
 }
 
 impl<K: Polled + Drop> Log for ErrorLog<K> {
@@ -96,6 +97,12 @@ impl<K: Polled + Drop> hb_log::Log for ErrorLog<K> {
 
     fn line(&mut self, line: &str) {
         if !self.quiet {
+            self.lines.tell(line);
+        }
+    }
+
+    fn beside(&mut self, line: &str) {
+        if !self.no_ways {
             self.lines.tell(line);
         }
     }

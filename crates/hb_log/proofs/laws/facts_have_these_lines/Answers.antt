@@ -29,6 +29,9 @@ returns-clause-end c = rw (decimal_digit 9 (omega arith)) refl
 pub returns-clause-word : goal.returns-clause-word
 returns-clause-word c = rw (decimal_digit 1 (omega arith)) refl
 
+pub returns-clause-way : goal.returns-clause-way
+returns-clause-way c = λ to. rw (decimal_digit 4 (omega arith)) refl
+
 pub returns-clause-close : goal.returns-clause-close
 returns-clause-close c = rw (decimal_digit 7 (omega arith), decimal_digit 3 (omega arith)) refl
 

@@ -73,24 +73,24 @@ pub(crate) struct Counter {
 
 /// What a run counts. Its loop adds, without a wait, and the thread that tells the state reads.
 #[derive(Drop)]
-pub(crate) struct Counts {
+pub struct Counts {
     /// How often the loop looked up: its waits and glances.
     looks: AtomicU64,
     /// The answers, by status.
-    pub answers: Vec<Counter>,
+    pub(crate) answers: Vec<Counter>,
     /// The ends of tunnels, by cause.
-    pub ends: Vec<Counter>,
+    pub(crate) ends: Vec<Counter>,
     /// The bytes of the tunnels that ended.
     up: AtomicU64,
     down: AtomicU64,
     /// What is held, as of the last tick, by kind.
-    pub held: Vec<Counter>,
+    pub(crate) held: Vec<Counter>,
     /// The links that live, by kind.
-    pub links: Vec<Counter>,
+    pub(crate) links: Vec<Counter>,
     /// The responses that were applied, by kind.
-    pub updates: Vec<Counter>,
+    pub(crate) updates: Vec<Counter>,
     /// Their resources that were refused, by kind.
-    pub refused: Vec<Counter>,
+    pub(crate) refused: Vec<Counter>,
     /// Whether a response was applied since what is held was counted.
     is_stale: AtomicBool,
     /// Whether the state was asked for since it was handed over.
@@ -187,7 +187,7 @@ impl Counts {
     /// Nothing came yet.
     ///
     /// Errors: `NoMemory`.
-    pub fn new(alloc: Global) -> Result<Counts, NoMemory> {
+    pub(crate) fn new(alloc: Global) -> Result<Counts, NoMemory> {
         let mut answers = Vec::new(alloc);
         for status in STATUSES.iter() {
             answers.push(Counter::new(status.1))?;
@@ -218,7 +218,7 @@ impl Counts {
     }
 
     /// Counts a note.
-    pub fn note(&self, n: &Note) {
+    pub(crate) fn note(&self, n: &Note) {
         match n {
             Note::Verdict { status, .. } => count(self.answers.as_slice(), word_of(*status)),
             Note::End {
@@ -235,12 +235,12 @@ impl Counts {
     }
 
     /// A link of this kind is born.
-    pub fn add_link(&self, word: &str) {
+    pub(crate) fn add_link(&self, word: &str) {
         add(self.links.as_slice(), word, 1);
     }
 
     /// A link of this kind is closed.
-    pub fn remove_link(&self, word: &str) {
+    pub(crate) fn remove_link(&self, word: &str) {
         for counter in self.links.iter() {
             if counter.word == word {
                 counter.times.fetch_sub(1, Ordering::SeqCst);
@@ -249,7 +249,7 @@ impl Counts {
     }
 
     /// Counts a response that was applied, and what it refused.
-    pub fn apply(&self, kind: Kind, did: &Outcome) {
+    pub(crate) fn apply(&self, kind: Kind, did: &Outcome) {
         let word = kind_word(kind);
         add(self.updates.as_slice(), word, 1);
         add(self.refused.as_slice(), word, did.refused.len() as u64);
@@ -257,12 +257,12 @@ impl Counts {
     }
 
     /// Whether a response was applied since what is held was counted.
-    pub fn is_stale(&self) -> bool {
+    pub(crate) fn is_stale(&self) -> bool {
         self.is_stale.load(Ordering::SeqCst)
     }
 
     /// Counts what is held.
-    pub fn hold(&self, held: &Held) {
+    pub(crate) fn hold(&self, held: &Held) {
         for counter in self.held.iter() {
             counter.times.store(0, Ordering::SeqCst);
         }
@@ -274,17 +274,17 @@ impl Counts {
     }
 
     /// The state is to be handed over.
-    pub fn ask_state(&self) {
+    pub(crate) fn ask_state(&self) {
         self.is_asked.store(true, Ordering::SeqCst);
     }
 
     /// Whether the state is to be handed over.
-    pub fn is_asked(&self) -> bool {
+    pub(crate) fn is_asked(&self) -> bool {
         self.is_asked.load(Ordering::SeqCst)
     }
 
     /// Hands the state over, unless the one before is just being taken: then it stays asked for.
-    pub fn give_state(&self, state: String) {
+    pub(crate) fn give_state(&self, state: String) {
         if let Some(mut place) = self.state.try_lock() {
             *place = Some(state);
             self.is_asked.store(false, Ordering::SeqCst);
@@ -292,7 +292,7 @@ impl Counts {
     }
 
     /// Takes the state that was handed over. `None` where none was since it was taken last, or where one is just being.
-    pub fn take_state(&self) -> Option<String> {
+    pub(crate) fn take_state(&self) -> Option<String> {
         let mut place = self.state.try_lock()?;
         place.take()
     }
@@ -303,52 +303,52 @@ impl Counts {
     }
 
     /// Time passed; whether workloads and policies were told by then.
-    pub fn tick(&self, synced: bool) {
+    pub(crate) fn tick(&self, synced: bool) {
         self.is_synced.store(synced, Ordering::SeqCst);
     }
 
     /// No line of a note is written any more.
-    pub fn silence(&self) {
+    pub(crate) fn silence(&self) {
         self.is_silent.store(true, Ordering::SeqCst);
     }
 
     /// The run ended.
-    pub fn end(&self) {
+    pub(crate) fn end(&self) {
         self.is_over.store(true, Ordering::SeqCst);
     }
 
     /// How often the loop looked up.
-    pub fn looks(&self) -> u64 {
+    pub(crate) fn looks(&self) -> u64 {
         self.looks.load(Ordering::SeqCst)
     }
 
     /// The bytes to the side that was dialled, of the tunnels that ended.
-    pub fn up(&self) -> u64 {
+    pub(crate) fn up(&self) -> u64 {
         self.up.load(Ordering::SeqCst)
     }
 
     /// The bytes back, of the tunnels that ended.
-    pub fn down(&self) -> u64 {
+    pub(crate) fn down(&self) -> u64 {
         self.down.load(Ordering::SeqCst)
     }
 
     /// Whether workloads and policies were told, as of the last tick.
-    pub fn is_synced(&self) -> bool {
+    pub(crate) fn is_synced(&self) -> bool {
         self.is_synced.load(Ordering::SeqCst)
     }
 
     /// Whether no line of a note is written any more.
-    pub fn is_silent(&self) -> bool {
+    pub(crate) fn is_silent(&self) -> bool {
         self.is_silent.load(Ordering::SeqCst)
     }
 
     /// Whether the run ended.
-    pub fn is_over(&self) -> bool {
+    pub(crate) fn is_over(&self) -> bool {
         self.is_over.load(Ordering::SeqCst)
     }
 
     /// How many tunnels are open. Each was let in before it ended.
-    pub fn open(&self) -> u64 {
+    pub(crate) fn open(&self) -> u64 {
         let ended = sum(self.ends.as_slice());
         let mut open: u64 = 0;
         for answer in self.answers.iter() {

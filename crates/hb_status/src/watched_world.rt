@@ -1,17 +1,27 @@
 //! A world whose links are seen.
 
+ghost use Rattle.std.specs.Prelude.{◌≡◌};
+
 use crate::seen::{Part, Sight};
 use hb_base::{Cause, Door, Target, Why};
 use hb_world::{Born, Finished, Glanced, Listened, Looked, Read, Ready, Waited, World, Wrote};
 
 /// A world that makes each call of the world in it, and tells what is born, read, written and closed, where that is to be seen.
 #[derive(Drop)]
-pub(crate) struct WatchedWorld<W> {
-    pub world: W,
-    pub sight: Option<Sight>,
+pub struct WatchedWorld<W> {
+    world: W,
+    sight: Option<Sight>,
 }
 
 impl<W> WatchedWorld<W> {
+    /// A world around another one, before any call.
+    pub fn over(world: W, sight: Option<Sight>) -> WatchedWorld<W>
+        ensures world { result.world ≡ world }
+        ensures sight { result.sight ≡ sight }
+    {
+        WatchedWorld { world, sight }
+    }
+
     fn born(&self, born: Born, part: Part) {
         if let (Some(sight), Born::New(link)) = (&self.sight, born) {
             sight.born(link, part);

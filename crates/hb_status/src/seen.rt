@@ -50,7 +50,7 @@ pub(crate) struct Seen {
 
 /// What is seen, for the world that sees the calls, and for who hears the notes.
 #[derive(Drop)]
-pub(crate) struct Sight {
+pub struct Sight {
     seen: Rc<RefCell<Seen>>,
     counts: Arc<Counts, Global>,
 }
@@ -174,7 +174,7 @@ impl Sight {
     /// Nothing was seen.
     ///
     /// Errors: `NoMemory`.
-    pub fn new(alloc: Global, counts: Arc<Counts, Global>) -> Result<Sight, NoMemory> {
+    pub(crate) fn new(alloc: Global, counts: Arc<Counts, Global>) -> Result<Sight, NoMemory> {
         let seen = Rc::new(alloc, RefCell::new(Seen::new(alloc)))?;
         Ok(Sight { seen, counts })
     }
@@ -182,7 +182,7 @@ impl Sight {
     /// The same, for another one to hold.
     ///
     /// Errors: `NoMemory`.
-    pub fn share(&self) -> Result<Sight, NoMemory> {
+    pub(crate) fn share(&self) -> Result<Sight, NoMemory> {
         Ok(Sight {
             seen: self.seen.clone()?,
             counts: Arc::try_clone(&self.counts)?,
@@ -190,7 +190,7 @@ impl Sight {
     }
 
     /// A link of this number is born.
-    pub fn born(&self, link: u64, part: Part) {
+    pub(crate) fn born(&self, link: u64, part: Part) {
         self.counts.add_link(part.word());
         let Ok(mut seen) = self.seen.try_borrow_mut() else {
             return;
@@ -206,7 +206,7 @@ impl Sight {
     }
 
     /// So many octets were read of a link.
-    pub fn read(&self, link: u64, count: usize) {
+    pub(crate) fn read(&self, link: u64, count: usize) {
         if let Ok(mut seen) = self.seen.try_borrow_mut()
             && let Some(link) = seen.links.get_mut(&link)
         {
@@ -215,7 +215,7 @@ impl Sight {
     }
 
     /// So many octets were written to a link.
-    pub fn wrote(&self, link: u64, count: usize) {
+    pub(crate) fn wrote(&self, link: u64, count: usize) {
         if let Ok(mut seen) = self.seen.try_borrow_mut()
             && let Some(link) = seen.links.get_mut(&link)
         {
@@ -224,7 +224,7 @@ impl Sight {
     }
 
     /// A link is closed.
-    pub fn closed(&self, link: u64) {
+    pub(crate) fn closed(&self, link: u64) {
         if let Ok(mut seen) = self.seen.try_borrow_mut()
             && let Some(link) = seen.links.remove(&link)
         {
@@ -233,7 +233,7 @@ impl Sight {
     }
 
     /// A note was made.
-    pub fn note(&self, n: &Note) {
+    pub(crate) fn note(&self, n: &Note) {
         if let Ok(mut seen) = self.seen.try_borrow_mut() {
             seen.note(n);
         }
@@ -242,7 +242,7 @@ impl Sight {
     /// The state of the run, as JSON.
     ///
     /// Errors: `NoMemory`.
-    pub fn state(&self, counts: &Counts) -> Result<String, NoMemory> {
+    pub(crate) fn state(&self, counts: &Counts) -> Result<String, NoMemory> {
         match self.seen.try_borrow() {
             Ok(seen) => seen.state(counts),
             Err(_) => Err(NoMemory),

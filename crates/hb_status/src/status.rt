@@ -3,6 +3,7 @@
 use crate::counts::Counts;
 use crate::desk::{Desk, Handed};
 use crate::guest::Guest;
+use crate::watch::Watch;
 use hb_base::{NoMemory, Or, Target};
 use hb_mio::address_of;
 use mio::net::{TcpListener, TcpStream};
@@ -39,7 +40,7 @@ struct Seen {
 
 /// What the thread has.
 #[derive(Drop)]
-pub(crate) struct Lobby {
+pub struct Lobby {
     rt: HostRuntime,
     alloc: Global,
     keys: RandomState,
@@ -54,7 +55,7 @@ pub(crate) struct Lobby {
 }
 
 /// The thread of a run that tells its state, until it is ended.
-pub(crate) struct Status {
+pub struct Status {
     counts: Arc<Counts, Global>,
     waker: Waker,
     thread: JoinHandle<()>,
@@ -200,6 +201,13 @@ impl Status {
     /// Errors: `NoMemory`.
     pub fn counts(&self) -> Result<Arc<Counts, Global>, NoMemory> {
         Arc::try_clone(&self.counts)
+    }
+
+    /// What the run counts, and what is seen of it, of which nothing was yet.
+    ///
+    /// Errors: `NoMemory`.
+    pub fn watch(&self, alloc: Global) -> Result<Watch, NoMemory> {
+        Watch::new(alloc, &self.counts)
     }
 
     /// Ends the thread.
