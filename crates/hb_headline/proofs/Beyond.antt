@@ -15,9 +15,7 @@ use Rattle.hb_frames.specs.RawFrame.{RawFrame, spelling}
 use Rattle.hb_front.proofs.TlvLists.{texts, same_size, same_parts}
 use Rattle.hb_front.specs.Header as front
 use Rattle.hb_front.specs.Header.{Header, body}
-use Rattle.hb_front.specs.Written.{octets_in, identity_text, identity_tlvs, header_of, front_text, IsSent}
-use Rattle.hb_front.specs.declared.family.Family.{Family}
-use Rattle.hb_front.specs.declared.family.Family.TheVariants.{Inet, Inet6}
+use Rattle.hb_front.specs.Written.{family_for, octets_in, identity_text, identity_tlvs, header_of, front_text, IsSent}
 use Rattle.hb_laws.proofs.RefusedWindows.{spelled_with}
 use Rattle.hb_laws.proofs.Spelled.{frames_read}
 use Rattle.hb_laws.specs.RefusedTunnels.{data_frame}
@@ -115,14 +113,19 @@ begins_ungranted at byte frames within =
 
 -- LINKS TO GATEWAYS: one header stands in front of octets
 
-octets_size : (f : Family) (ip : Ip) → (length (octets_in f ip) ≡ 4) ⊎ (length (octets_in f ip) ≡ 16)
-octets_size Inet (V4 n) = inl refl
-octets_size Inet6 (V4 n) = inr refl
-octets_size Inet (V6 n) = inr refl
-octets_size Inet6 (V6 n) = inr refl
+source_size : (from to : Ip) → (length (octets_in (family_for from to) from) ≡ 4) ⊎ (length (octets_in (family_for from to) from) ≡ 16)
+source_size (V4 n) (V4 m) = inl refl
+source_size (V4 n) (V6 m) = inr refl
+source_size (V6 n) to = inr refl
 
-few_octets : (f : Family) (ip : Ip) → length (octets_in f ip) ≤ 16
-few_octets f ip = ⊎_elim (λ is. omega (arith, is)) (λ is. omega (arith, is)) (octets_size f ip)
+destination_size : (from to : Ip) → (length (octets_in (family_for from to) to) ≡ 4) ⊎ (length (octets_in (family_for from to) to) ≡ 16)
+destination_size (V4 n) (V4 m) = inl refl
+destination_size (V4 n) (V6 m) = inr refl
+destination_size (V6 n) (V4 m) = inr refl
+destination_size (V6 n) (V6 m) = inr refl
+
+few_octets : (n : ℕ) → (n ≡ 4) ⊎ (n ≡ 16) → n ≤ 16
+few_octets n is = ⊎_elim (λ four. omega (arith, four)) (λ many. omega (arith, many)) is
 
 few_tlvs : (identity : Option Identity) → IfSome identity IsSent → length (texts (identity_tlvs identity)) ≤ 4003
 few_tlvs None may = omega arith
@@ -135,13 +138,15 @@ body_counted from to identity may =
     let h = header_of from to identity in
     let size : length (body h) ≡ length h.source + (length h.destination + (4 + length (texts h.tlvs))) =
     omega (arith, length-append {A = ℕ}) in
-    omega (arith, size, few_octets h.family from.ip, few_octets h.family to.ip, few_tlvs identity may)
+    let source = few_octets (length h.source) (source_size from.ip to.ip) in
+    let destination = few_octets (length h.destination) (destination_size from.ip to.ip) in
+    omega (arith, size, source, destination, few_tlvs identity may)
 
 same_text : (h k : Header) (x y : List ℕ) → length (body h) < 2 ^ 16 → length (body k) < 2 ^ 16
     → front.spelling h ++ x ≡ front.spelling k ++ y → front.spelling h ≡ front.spelling k
 same_text h k x y h_counted k_counted is =
     let size = same_size (length (body h)) (length (body k)) h_counted k_counted (ap (λ xs. take 2 (drop 14 xs)) is) in
-    (same_parts (front.spelling h) (front.spelling k) x y (ap (λ n. 16 + n) size) is).0
+    (same_parts (front.spelling h) (front.spelling k) x y (omega (arith, size, length-append {A = ℕ})) is).0
 
 -- so the header that stands there is that one
 this_header : (from to : Target) (identity : Option Identity) → IfSome identity IsSent → (header x y : List ℕ) → IsHeader header
@@ -149,7 +154,7 @@ this_header : (from to : Target) (identity : Option Identity) → IfSome identit
 this_header from to identity may header x y (source, destination, other, may_other, text) is =
     text
     ∙ same_text (header_of source destination other) (header_of from to identity) x y (body_counted source destination other may_other)
-        (body_counted from to identity may) (ap (λ (bs : List ℕ). bs ++ x) (sym text) ∙ is)
+    (body_counted from to identity may) (ap (λ (bs : List ℕ). bs ++ x) (sym text) ∙ is)
 
 gate_granted : (at from to : Target) (identity : Option Identity) → IfSome identity IsSent → (came : List ℕ) (front : List RawFrame)
     (f : RawFrame) → has_data f ≡ true → (frames : ℕ → List RawFrame)
@@ -185,14 +190,14 @@ gate_begins_ungranted at byte from to identity may frames within =
     let last = gate_granted at from to identity may (spelling none_granted) (ack ∷ []) (data_with byte) refl frames within in
     none_fits byte last.0 last.2 (settings_read last.0 last.1.0 last.1.1)
 
--- the octets of another protocol are no header: the thirteenth of these isn't 33
+not_same : (a b : ℕ) → a ≡ 13 → b ≡ 80 → a ≡ b → ⊥
+not_same a b first second is = omega (arith, first, second, is)
+
+-- a header begins with 13, and the client's preface with 80
 pub gate_unfronted : GateUnfronted
 gate_unfronted at frames within =
     let gate = within.gateways 1 refl in
-    let text = gate.1.4 in
-    let is = gate.3.went.is in
-    let first : slice_index (gate.0 ++ (octets ++ spelled gate.2)) 0 ≡ slice_index (octets ++ gate.3.went.rest) 0 =
-    ap (λ (bs : List ℕ). slice_index bs 0) (sym (append_assoc gate.0 octets (spelled gate.2)) ∙ is) in
-    let no : 13 ≡ 80 =
-    ap (λ (bs : List ℕ). slice_index (bs ++ (octets ++ spelled gate.2)) 0) (sym text) ∙ first in
-    absurd cc
+    let all = gate.0 ++ (octets ++ spelled gate.2) in
+    let same : slice_index all 0 ≡ slice_index (octets ++ gate.3.went.rest) 0 =
+    ap (λ (bs : List ℕ). slice_index bs 0) (sym (append_assoc gate.0 octets (spelled gate.2)) ∙ gate.3.went.is) in
+    not_same (slice_index all 0) 80 (ap (λ (bs : List ℕ). slice_index (bs ++ (octets ++ spelled gate.2)) 0) gate.1.4) refl same

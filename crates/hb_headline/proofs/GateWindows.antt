@@ -1,5 +1,5 @@
 -- On each link to a gateway of a lawful trace DATA begins within what the gateway granted.
-use Rattle.std.proofs.Common.{◌≡◌, ◌⊎◌, inl, inr, ⊎_elim, ℕ, ◌+◌, ◌-◌, ◌<◌, ◌≤◌, Bool, true, cond, fold, List, [], ◌∷◌, ◌++◌, length, refl, ap, sym, ◌∙◌, subst, arith, length-append, length-drop}
+use Rattle.std.proofs.Common.{◌≡◌, ◌⊎◌, inl, inr, ⊎_elim, ℕ, ◌+◌, ◌-◌, ◌<◌, ◌≤◌, Bool, true, false, cond, fold, List, [], ◌∷◌, ◌++◌, length, refl, ap, sym, ◌∙◌, subst, arith, length-append, length-drop}
 use Rattle.std.proofs.lemmas.Bool.{false≢true}
 use Rattle.std.proofs.lemmas.List.{append-nil, append_assoc, take-append-drop, nil_from_length}
 use Rattle.std.proofs.lemmas.List.Concat.{flat_map-append}
@@ -103,20 +103,20 @@ header_is : (g : ℕ) (x : Gateway) (parts : List Part) → gateway_runs.StandsF
     → IsHeader (front_header parts)
 header_is g x parts (gateway_runs.begins is none) born = absurd (false≢true (ap (λ (y : Gateway). is_gate_born y.phase) (sym is) ∙ born))
 header_is g y more (gateway_runs.goes_on {x = x} {parts = parts} stands p steps grown) born =
-    subst (λ (ps : List Part). IsHeader (front_header ps)) (sym grown) (by p steps (gate_part_stays g x y p steps))
+    subst (λ (ps : List Part). IsHeader (front_header ps)) (sym grown)
+    (by p steps (gate_part_stays g x y p steps) (header_is g x parts stands))
   where
     by : (q : Part) → gateway_runs.Steps g x q y → (list_any is_birth (gateway.entry_in q) ≡ false → GateStays x.phase y.phase)
-        → IsHeader (front_header (parts ++ q ∷ []))
-    by (dialled z key) steps stays =
+        → (is_gate_born x.phase ≡ true → IsHeader (front_header parts)) → IsHeader (front_header (parts ++ q ∷ []))
+    by (dialled z key) steps stays was =
         let none = ((all_keep g x parts stands).early (born_unborn g x z key steps.0)).header in
         let all : front_header (parts ++ dialled z key ∷ []) ≡ front_of key =
         flat_map-append gateway.front_in parts (dialled z key ∷ [])
         ∙ ap (λ (bs : List ℕ). bs ++ (front_of key ++ [])) none ∙ append-nil (front_of key) in
         (record { ip = key.source; port = 0 }, key.gateway, key.identity, born_written g x z key steps.0, all)
-    by (entry z) steps stays =
-        subst IsHeader (sym (none_more gateway.front_in parts (entry z) refl)) (header_is g x parts stands (gate_born g x z steps.0))
-    by q steps stays =
-        subst IsHeader (sym (none_more gateway.front_in parts q refl)) (header_is g x parts stands (stays refl born))
+    by (entry z) steps stays was =
+        subst IsHeader (sym (none_more gateway.front_in parts (entry z) refl)) (was (gate_born g x z steps.0))
+    by q steps stays was = subst IsHeader (sym (none_more gateway.front_in parts q refl)) (was (stays refl born))
 
 -- a link of which the trace fits what it does is born
 born_fits : (phase : Phase) (v : Look) → GateFits phase v → is_gate_born phase ≡ true

@@ -15,7 +15,7 @@ use Rattle.hb_world.specs.declared.entry.Entry.{Entry}
 use Rattle.hb_world.specs.declared.entry.Entry.TheVariants as e
 use Rattle.hb_serve.specs.Asked.{StandsWith}
 use Rattle.hb_reason.specs.Reasons.{Hear}
-use Rattle.hb_serve.proofs.Hearing.{longer}
+use Rattle.hb_reason.proofs.Hearing.{longer}
 
 -- what looks the same, and stirs as much, stirred as well
 stirs_same : (trace : List Entry) (a b c : Shown) → IsSame b c → ((l : ℕ) → c.stirs l ≡ b.stirs l) → Stirs trace a b → Stirs trace a c

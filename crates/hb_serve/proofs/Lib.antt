@@ -1,4 +1,3 @@
 mod Along
 pub mod Asking
-mod Hearing
 mod Served

@@ -113,16 +113,16 @@ still-call (call.Glance ready glanced.NoMemory) past is = still-nothing
 pub Bears : ℕ → List Entry → Type 0
 Bears link es = Does es 1 (λ l. eqb link l) (λ l. false)
 
-bears-number : {n link : ℕ} {es : List Entry} → Bears n es → Some n ≡ Some link → Bears link es
+bears-number : {n link : ℕ} (es : List Entry) → Bears n es → Some n ≡ Some link → Bears link es
 unfolding Bears
-bears-number {n} {link} {es} b is = let e : n ≡ link = cc in subst (λ (k : ℕ). Does es 1 (λ l. eqb k l) (λ l. false)) e b
+bears-number {n} {link} es b is = let e : n ≡ link = cc in subst (λ (k : ℕ). Does es 1 (λ l. eqb k l) (λ l. false)) e b
 
 pub bears-call : (c : Call) (past : List Entry) (link : ℕ) → birth_of c ≡ Some link → Bears link (entries_of c past)
 unfolding Bears
 bears-call (call.Accept door (born.New n)) past link is =
-    bears-number (record { count = refl; born = λ l. or-false (eqb n l); closed = λ l. refl }) is
+    bears-number (v.Accepted n door ∷ []) (record { count = refl; born = λ l. or-false (eqb n l); closed = λ l. refl }) is
 bears-call (call.Dial to why (born.New n)) past link is =
-    bears-number (record { count = refl; born = λ l. or-false (eqb n l); closed = λ l. refl }) is
+    bears-number (v.Dialled n to why ∷ []) (record { count = refl; born = λ l. or-false (eqb n l); closed = λ l. refl }) is
 bears-call (call.Listen at door answer) past link is = absurd (cc)
 bears-call (call.Accept door born.Balked) past link is = absurd (cc)
 bears-call (call.Accept door born.Failed) past link is = absurd (cc)

@@ -4,8 +4,10 @@ ghost use Rattle.std.specs.Prelude.{◌≡◌, [], ℕ};
 ghost use Rattle.hb_traced.specs.Known.{faults_at};
 ghost use Rattle.hb_traced.specs.Traced.{trace_of};
 
-use crate::answers::{finish_failed, finish_of, glance_failed, listen_failed, look_failed, look_of};
-use crate::answers::{read_failed, read_of, wait_failed, write_failed, write_of};
+use crate::answers::{
+    finish_failed, finish_of, glance_failed, listen_failed, look_failed, look_of, read_failed,
+    read_of, wait_failed, write_failed, write_of,
+};
 use crate::call::Call;
 use crate::known::Known;
 use hb_base::{Cause, Door, Target, Why};
@@ -78,10 +80,8 @@ impl<W: World> World for Traced<W> {
 
     fn listen(&mut self, at: Target, door: Door) -> Listened {
         let answer = self.world.listen(at, door);
-        self.known.hear(
-            &Call::Listen(at, door, answer),
-            listen_failed(answer),
-        );
+        self.known
+            .hear(&Call::Listen(at, door, answer), listen_failed(answer));
         answer
     }
 
@@ -115,41 +115,28 @@ impl<W: World> World for Traced<W> {
 
     fn finish(&mut self, link: u64) -> Finished {
         let answer = finish_of(self.known.lives(link), self.world.finish(link));
-        self.known.hear_of(
-            link,
-            &Call::Finish(link, answer),
-            finish_failed(answer),
-        );
+        self.known
+            .hear_of(link, &Call::Finish(link, answer), finish_failed(answer));
         answer
     }
 
     fn read(&mut self, link: u64, into: &mut [u8]) -> Read {
         let answer = read_of(self.known.lives(link), self.world.read(link, into));
-        self.known.hear_of(
-            link,
-            &Call::Read(link, into, answer),
-            read_failed(answer),
-        );
+        self.known
+            .hear_of(link, &Call::Read(link, into, answer), read_failed(answer));
         answer
     }
 
     fn write(&mut self, link: u64, from: &[u8]) -> Wrote {
         let answer = write_of(self.known.lives(link), self.world.write(link, from));
-        self.known.hear_of(
-            link,
-            &Call::Write(link, from, answer),
-            write_failed(answer),
-        );
+        self.known.hear_of(link, &Call::Write(link, from, answer), write_failed(answer));
         answer
     }
 
     fn look(&mut self, link: u64) -> Looked {
         let answer = look_of(self.known.lives(link), self.world.look(link));
-        self.known.hear_of(
-            link,
-            &Call::Look(link, answer),
-            look_failed(answer),
-        );
+        self.known
+            .hear_of(link, &Call::Look(link, answer), look_failed(answer));
         answer
     }
 
@@ -165,19 +152,15 @@ impl<W: World> World for Traced<W> {
 
     fn wait(&mut self, ready: &mut Ready) -> Waited {
         let answer = self.world.wait(ready);
-        self.known.hear(
-            &Call::Wait(ready, answer),
-            wait_failed(answer),
-        );
+        self.known
+            .hear(&Call::Wait(ready, answer), wait_failed(answer));
         answer
     }
 
     fn glance(&mut self, ready: &mut Ready) -> Glanced {
         let answer = self.world.glance(ready);
-        self.known.hear(
-            &Call::Glance(ready, answer),
-            glance_failed(answer),
-        );
+        self.known
+            .hear(&Call::Glance(ready, answer), glance_failed(answer));
         answer
     }
 }

@@ -4,7 +4,7 @@ use Rattle.hb_audit.specs.Tells.{Tells}
 use Rattle.hb_audit.specs.Told.{Told}
 use Rattle.hb_held.specs.Held.{Resources}
 use Rattle.hb_reason.specs.Reasons.{told_by}
-use Rattle.hb_serve.proofs.Hearing.{next}
+use Rattle.hb_reason.proofs.Hearing.{next}
 use Rattle.hb_serve.proofs.asked.AskedNode.next_note.Goals as goal
 
 pub returns-clause-takes : goal.returns-clause-takes
