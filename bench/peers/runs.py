@@ -155,10 +155,10 @@ def standard_error_that_nobody_reads(room):
     until("the next lines", lambda: b" lines lost\n" in came and b"\nverdict 2/3 401 " in came and came.endswith(b"\nwhy 2/3 none_allows=1\n"))
     lines = came.decode().splitlines()
     lost = sum(int(line.split(" ")[1]) for line in lines if line.startswith("hbone: "))
-    kept = sum(line.startswith(("verdict ", "end ")) for line in lines)
-    # an answer of 200, 5,500 refusals, an end, one more refusal; and a door that listens, the control plane dialled and open
-    reasons = sum(line.startswith("why ") for line in lines)
-    wanted("lines and those that were lost", (kept + lost, len(lines) - kept - reasons), (5503, 4))
+    kept = sum(line.startswith(("verdict ", "end ", "was ")) for line in lines)
+    others = [line for line in lines if not line.startswith(("verdict ", "end ", "was ", "why ", "hbone: "))]
+    # an answer of 200, 5,500 refusals, an end and whose it was, one more refusal; and a door that listens, the control plane dialled and open
+    wanted("lines and those that were lost", (kept + lost, len(others)), (5504, 3))
     room.proxy.end()
     return f"revoked within {took:.2f} s, {lost} lines lost"
 
